@@ -1,0 +1,131 @@
+-- What passing the settings' checks tells.
+-- Assumes nothing.
+use mathlib.Core.Path.{_≡_, refl, sym, subst, _∙_, ap}
+use mathlib.Core.Logic.{_⊎_, inl, inr, _≢_}
+use mathlib.Core.Bool.{Bool, true, false, cond, not, _||_}
+use mathlib.Core.Option.{Option, none, some}
+use Prim.Native.Nat.{ℕ, zero, suc, _+_, _*_, _-_, _/_, _%_, _^_, _≤_, _<_}
+use native.Mathlib.Nat.{pos-of-ne-zero}
+use native.Mathlib.Decide.{decLe, ℕ-discrete}
+use native.Mathlib.Omega.{arith}
+use borrow.Author.Tests.{ltb-false, leb-false, eqb-true, eqb-false, not-false, eq-eqb}
+use lib.Bits.{bitAnd}
+use lib.Dec.{eqb, leb, ltb}
+use lib.Pow.{pow-pos, pow-mono}
+use Rattle.lemmas.proofs.Bools.{or-false-left, or-false-right, cond-none}
+use Rattle.lemmas.proofs.Powers.{power-of-and, and-of-power}
+use Rattle.index.specs.Checks.{Check, firstMet}
+use Rattle.index.specs.Settings.{byRule, powerBelow, powerOfTwo, odd, settingsChecks, settingsRefusal, half, modulus}
+use Rattle.index.specs.declared.Settings.{Settings}
+
+-- ── powers of two ──
+pub power-below : (n m : ℕ) → powerBelow n m ≡ true → (k : ℕ) × (m ≡ 2 ^ k)
+power-below zero m e = absurd (let z : _≡_ {A = ℕ} 0 1 = cc in omega arith)
+power-below (suc n) m e = go (eqb m (2 ^ n)) refl e (power-below n m)
+  where
+    go : (b : Bool) → eqb m (2 ^ n) ≡ b → (b || powerBelow n m) ≡ true → (powerBelow n m ≡ true → (k : ℕ) × (m ≡ 2 ^ k)) → (k : ℕ) × (m ≡ 2 ^ k)
+    go true t e r = (n, eqb-true m (2 ^ n) t)
+    go false t e r = r e
+
+pub below-power : (n k m : ℕ) → k < n → m ≡ 2 ^ k → powerBelow n m ≡ true
+below-power zero k m h e = absurd (omega arith)
+below-power (suc n) k m h e = go (eqb m (2 ^ n)) refl (below-power n k m)
+  where
+    go : (b : Bool) → eqb m (2 ^ n) ≡ b → (k < n → m ≡ 2 ^ k → powerBelow n m ≡ true) → (b || powerBelow n m) ≡ true
+    go true t r = refl
+    go false t r = elim (ℕ-discrete k n) [
+      | yes q ↦ absurd (eqb-false m (2 ^ n) t (e ∙ ap (λ (x : ℕ). 2 ^ x) q))
+      | no q ↦ r (omega arith) e
+    ]
+
+-- the test that the code makes
+pub power-test : (m : ℕ) → 0 < m → m ≤ 65536 → eqb (bitAnd m (m - 1)) 0 ≡ powerOfTwo m
+unfolding powerOfTwo
+power-test m h l = go (eqb (bitAnd m (m - 1)) 0) refl (powerBelow 17 m) refl
+  where
+    small : (k : ℕ) → m ≡ 2 ^ k → k < 17
+    small k e = elim (decLe 17 k) [
+      | yes g ↦ absurd (omega (arith, pow-mono g))
+      | no g ↦ omega arith
+    ]
+
+    go : (b : Bool) → eqb (bitAnd m (m - 1)) 0 ≡ b → (d : Bool) → powerBelow 17 m ≡ d → b ≡ d
+    go true t true e = refl
+    go false t false e = refl
+    go true t false e =
+        let r : (k : ℕ) × (m ≡ 2 ^ k) = power-of-and m h (eqb-true (bitAnd m (m - 1)) 0 t) in
+        sym (below-power 17 (r .0) m (small (r .0) (r .1)) (r .1)) ∙ e
+    go false t true e =
+        let r : (k : ℕ) × (m ≡ 2 ^ k) = power-below 17 m e in
+        absurd (eqb-false (bitAnd m (m - 1)) 0 t (subst (λ (x : ℕ). bitAnd x (x - 1) ≡ 0) (sym (r .1)) (and-of-power (r .0))))
+
+-- ── good settings ──
+pub record Good (s : Settings) : Type 0 where
+  pub rule : s .rule ≤ 2
+  pub width-low : 4 ≤ s .width
+  pub width-high : s .width ≤ 16
+  pub some-bucket : 0 < s .buckets
+  pub few-buckets : s .buckets ≤ 65536
+  -- by the rule
+  pub power : s .rule ≢ 1 → (k : ℕ) × (s .buckets ≡ 2 ^ k)
+  pub even : s .rule ≡ 1 → s .buckets % 2 ≡ 0
+  pub mask : s .rule ≢ 0 → s .rule ≢ 1 → s .mask < s .buckets
+
+pub by-masked : {A : Type 0} (r : ℕ) (x y z : A) → r ≢ 0 → r ≢ 1 → byRule r x y z ≡ z
+by-masked zero x y z n m = absurd (n refl)
+by-masked (suc zero) x y z n m = absurd (m refl)
+by-masked (suc (suc r)) x y z n m = refl
+
+pub by-xor : {A : Type 0} (r : ℕ) (x y : A) → r ≢ 1 → byRule r x y x ≡ x
+by-xor zero x y m = refl
+by-xor (suc zero) x y m = absurd (m refl)
+by-xor (suc (suc r)) x y m = refl
+
+power-of-good : (r m : ℕ) → byRule r (not (powerOfTwo m)) (odd m) (not (powerOfTwo m)) ≡ false → r ≢ 1 → (k : ℕ) × (m ≡ 2 ^ k)
+unfolding powerOfTwo
+power-of-good r m e n = power-below 17 m (not-false (powerBelow 17 m) (sym (by-xor r (not (powerBelow 17 m)) (odd m) n) ∙ e))
+
+even-of-good : (r m : ℕ) → byRule r (not (powerOfTwo m)) (odd m) (not (powerOfTwo m)) ≡ false → r ≡ 1 → m % 2 ≡ 0
+even-of-good r m e h =
+    let f : odd m ≡ false = subst (λ (x : ℕ). byRule x (not (powerOfTwo m)) (odd m) (not (powerOfTwo m)) ≡ false) h e in
+    let n : m % 2 ≢ 1 = eqb-false (m % 2) 1 f in
+    omega arith
+
+mask-of-good : (r m k : ℕ) → byRule r (not (eqb k 0)) (not (eqb k 0)) (leb m k) ≡ false → r ≢ 0 → r ≢ 1 → k < m
+mask-of-good r m k e n o = leb-false m k (sym (by-masked r (not (eqb k 0)) (not (eqb k 0)) (leb m k) n o) ∙ e)
+
+pub good : (s : Settings) → settingsRefusal s ≡ none → Good s
+unfolding settingsRefusal settingsChecks
+good s e =
+    let m : ℕ = s .buckets in
+    let c1 = cond-none (ltb 2 (s .rule)) 1 _ e in
+    let c2 = cond-none (ltb (s .width) 4 || ltb 16 (s .width)) 2 _ (c1 .1) in
+    let c3 = cond-none (eqb m 0 || ltb 65536 m || byRule (s .rule) (not (powerOfTwo m)) (odd m) (not (powerOfTwo m))) 3 _ (c2 .1) in
+    let c4 = cond-none (byRule (s .rule) (not (eqb (s .mask) 0)) (not (eqb (s .mask) 0)) (leb m (s .mask))) 4 none (c3 .1) in
+    let counts = or-false-left (eqb m 0 || ltb 65536 m) (byRule (s .rule) (not (powerOfTwo m)) (odd m) (not (powerOfTwo m))) (c3 .0) in
+    let shape = or-false-right (eqb m 0 || ltb 65536 m) (byRule (s .rule) (not (powerOfTwo m)) (odd m) (not (powerOfTwo m))) (c3 .0) in
+    record {
+      rule = ltb-false 2 (s .rule) (c1 .0);
+      width-low = ltb-false (s .width) 4 (or-false-left (ltb (s .width) 4) (ltb 16 (s .width)) (c2 .0));
+      width-high = ltb-false 16 (s .width) (or-false-right (ltb (s .width) 4) (ltb 16 (s .width)) (c2 .0));
+      some-bucket = pos-of-ne-zero (eqb-false m 0 (or-false-left (eqb m 0) (ltb 65536 m) counts));
+      few-buckets = ltb-false 65536 m (or-false-right (eqb m 0) (ltb 65536 m) counts);
+      power = power-of-good (s .rule) m shape;
+      even = even-of-good (s .rule) m shape;
+      mask = mask-of-good (s .rule) m (s .mask) (c4 .0);
+    }
+
+-- ── what hashes are reduced by ──
+pub modulus-ring : (s : Settings) → s .rule ≡ 1 → modulus s ≡ s .buckets / 2
+unfolding modulus half
+modulus-ring s e = ap (λ (r : ℕ). byRule r (s .buckets) (s .buckets / 2) (s .buckets)) e
+
+pub modulus-xor : (s : Settings) → s .rule ≢ 1 → modulus s ≡ s .buckets
+unfolding modulus
+modulus-xor s n = by-xor (s .rule) (s .buckets) (half s) n
+
+pub modulus-below : (s : Settings) → Good s → (0 < modulus s) × (modulus s ≤ s .buckets)
+modulus-below s G = elim (ℕ-discrete (s .rule) 1) [
+  | yes e ↦ omega (arith, modulus-ring s e, G .even e, G .some-bucket)
+  | no n ↦ omega (arith, modulus-xor s n, G .some-bucket)
+]

@@ -1,0 +1,9 @@
+-- What is proved of the definitions. The layers above use `Laws`.
+pub mod Good
+pub mod Ring
+pub mod Rules
+pub mod Laws
+pub mod Examples
+pub mod Refusals
+pub mod Answers
+pub mod Computes

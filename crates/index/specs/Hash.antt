@@ -1,0 +1,53 @@
+-- From tag to entry: the hash, the fingerprint and the home bucket.
+-- Assumes nothing.
+use mathlib.Core.Bool.{Bool, true, false, cond, _||_}
+use mathlib.Core.List.{List, [], _∷_}
+use Prim.Native.Nat.{ℕ, zero, suc, _+_, _*_, _/_, _%_, _^_}
+use lib.Bits.{bitXor}
+use lib.Dec.{eqb, ltb}
+use lib.ListN.{length}
+use Rattle.index.specs.Checks.{Check, check}
+use Rattle.index.specs.Settings.{modulus}
+use Rattle.index.specs.declared.Settings.{Settings}
+
+abbrev pub fnvStart : ℕ
+fnvStart = 14695981039346656037
+
+abbrev pub fnvPrime : ℕ
+fnvPrime = 1099511628211
+
+-- one byte: XOR into the low eight bits, then times the prime, modulo 2 to the 64
+unfoldable pub fnvStep : ℕ → ℕ → ℕ
+fnvStep h b = (h / 256 * 256 + bitXor (h % 256) b) * fnvPrime % 2 ^ 64
+
+-- the bytes one after the other, from a hash on
+unfoldable pub fnvFrom : ℕ → List ℕ → ℕ
+fnvFrom h [] = h
+fnvFrom h (b ∷ bs) = fnvFrom (fnvStep h b) bs
+
+-- the 64-bit FNV-1a hash
+unfoldable pub fnv1a : List ℕ → ℕ
+fnv1a bytes = fnvFrom fnvStart bytes
+
+-- 0 marks an empty cell, so it becomes 1
+abbrev pub notZero : ℕ → ℕ
+notZero zero = 1
+notZero (suc n) = suc n
+
+-- the fingerprint (document 01: the print) of a hash: its low w bits
+unfoldable pub fingerprintOf : Settings → ℕ → ℕ
+fingerprintOf s h = notZero (h % 2 ^ s .width)
+
+-- the home bucket of a hash, by its upper 32 bits
+unfoldable pub homeOf : Settings → ℕ → ℕ
+homeOf s h = h / 2 ^ 32 % modulus s
+
+unfoldable pub fingerprint : Settings → List ℕ → ℕ
+fingerprint s tag = fingerprintOf s (fnv1a tag)
+
+unfoldable pub home : Settings → List ℕ → ℕ
+home s tag = homeOf s (fnv1a tag)
+
+-- the row of the place "tag": a tag is 1 to 64 bytes
+unfoldable pub tagChecks : List ℕ → List Check
+tagChecks tag = check 7 (eqb (length tag) 0 || ltb 64 (length tag)) ∷ []

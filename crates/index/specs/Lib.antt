@@ -1,0 +1,8 @@
+-- What a reader has to believe of the index layer: the checks, the hash, the candidates, and the laws that the layers above use.
+pub mod Checks
+pub mod Settings
+pub mod Hash
+pub mod Candidates
+pub mod Answers
+pub mod Laws
+pub mod Examples

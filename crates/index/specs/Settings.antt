@@ -1,0 +1,52 @@
+-- The settings: rule, width w, bucket count M, mask m. Their checks are 1 to 4.
+-- Assumes nothing.
+use mathlib.Core.Bool.{Bool, true, false, cond, not, _||_}
+use mathlib.Core.Option.{Option}
+use mathlib.Core.List.{List, [], _∷_}
+use Prim.Native.Nat.{ℕ, zero, suc, _+_, _*_, _/_, _%_, _^_}
+use lib.Dec.{eqb, leb, ltb}
+use Rattle.index.specs.Checks.{Check, check, firstMet}
+use Rattle.index.specs.declared.Settings.{Settings}
+
+-- rule 0 is plain (partial-key XOR), 1 ring (additive and subtractive), 2 masked (vertical)
+abbrev pub byRule : {A : Type 0} → ℕ → A → A → A → A
+byRule zero plain ring masked = plain
+byRule (suc zero) plain ring masked = ring
+byRule (suc (suc n)) plain ring masked = masked
+
+-- the default settings: rule 0, width 12, 4,096 buckets, mask 0
+abbrev pub defaultSettings : Settings
+defaultSettings = record { rule = 0; width = 12; buckets = 4096; mask = 0 }
+
+-- m is 2 to the k for some k below n
+abbrev pub powerBelow : ℕ → ℕ → Bool
+powerBelow zero m = false
+powerBelow (suc k) m = eqb m (2 ^ k) || powerBelow k m
+
+-- m is a power of two, of those up to 65,536
+unfoldable pub powerOfTwo : ℕ → Bool
+powerOfTwo m = powerBelow 17 m
+
+abbrev pub odd : ℕ → Bool
+odd m = eqb (m % 2) 1
+
+-- the rows of the place "settings", in their order
+unfoldable pub settingsChecks : Settings → List Check
+settingsChecks s =
+    check 1 (ltb 2 (s .rule))
+    ∷ check 2 (ltb (s .width) 4 || ltb 16 (s .width))
+    ∷ check 3 (eqb (s .buckets) 0 || ltb 65536 (s .buckets) || byRule (s .rule) (not (powerOfTwo (s .buckets))) (odd (s .buckets)) (not (powerOfTwo (s .buckets))))
+    ∷ check 4 (byRule (s .rule) (not (eqb (s .mask) 0)) (not (eqb (s .mask) 0)) (leb (s .buckets) (s .mask)))
+    ∷ []
+
+-- the first number by which the settings are refused, if any
+unfoldable pub settingsRefusal : Settings → Option ℕ
+settingsRefusal s = firstMet (settingsChecks s)
+
+-- L, half the bucket count, which the ring rule alone uses
+unfoldable pub half : Settings → ℕ
+half s = s .buckets / 2
+
+-- what hashes are reduced by: M, under the ring rule L
+unfoldable pub modulus : Settings → ℕ
+modulus s = byRule (s .rule) (s .buckets) (half s) (s .buckets)

@@ -1,0 +1,289 @@
+// The index rules of a cuckoo filter: settings, hash, fingerprint, offset and candidates. The table
+// above relies on the laws of specs/Laws.antt and on nothing else.
+ghost use mathlib.Core.Path.{_≡_};
+ghost use Prim.Native.Nat.{_+_, _*_, _%_, _^_, _<_, _≤_};
+ghost use mathlib.Core.Option.{none};
+ghost use Rattle.index.specs.Checks.{numberOf};
+ghost use Rattle.index.specs.Settings.{defaultSettings, settingsRefusal, modulus, powerOfTwo};
+ghost use Rattle.index.specs.Hash.{fnvStep, fnvPrime, fingerprintOf, fnv1a as hashOf};
+ghost use Rattle.index.specs.Candidates.{offset as offsetOf, across as acrossOf};
+ghost use Rattle.index.specs.Answers.{checkedIs, checkedSettings, tagEntryIs, entryOf, offsetIs, offsetAnswer, Lists, candidatesAnswer};
+
+// The settings of a table. Any numbers can be handed in, so each call checks them.
+pub struct Settings {
+    pub rule: u32,
+    pub width: u32,
+    pub buckets: u32,
+    pub mask: u32,
+}
+
+// The checking constructor's answer.
+pub enum Checked {
+    Passed(Settings),
+    Refused(u32),
+}
+
+// The fingerprint and the home bucket of a tag.
+pub enum TagEntry {
+    At(u16, u32),
+    Refused(u32),
+}
+
+pub enum OffsetAnswer {
+    Is(u32),
+    Refused(u32),
+}
+
+// The first `count` buckets are the candidates, in order. Where refusal is not 0 there are none.
+pub struct CandidateList {
+    pub refusal: u32,
+    pub count: u32,
+    pub buckets: [u32; 4],
+}
+
+// Whether m is a power of two.
+fn is_power(m: u32) -> bool
+    requires { ⌜ (0 < m) × (m ≤ 65536) ⌝ }
+    ensures { λ r. ⌜ r ≡ powerOfTwo m ⌝ }
+{
+    m & (m - 1) == 0
+}
+
+impl Settings {
+    // The default of each field.
+    pub const RULE: u32 = 0;
+
+    pub const WIDTH: u32 = 12;
+
+    pub const BUCKETS: u32 = 4096;
+
+    pub const MASK: u32 = 0;
+
+    pub fn defaults() -> Self
+        ensures { λ r. ⌜ r ≡ defaultSettings ⌝ }
+    {
+        Settings {
+            rule: Self::RULE,
+            width: Self::WIDTH,
+            buckets: Self::BUCKETS,
+            mask: Self::MASK,
+        }
+    }
+
+    // The first number by which the settings are refused, 0 where they pass.
+    pub fn refusal(self) -> u32
+        ensures { λ r. ⌜ r ≡ numberOf (settingsRefusal self) ⌝ }
+    {
+        let rule = self.rule;
+        let width = self.width;
+        let buckets = self.buckets;
+        let mask = self.mask;
+        if rule > 2 {
+            return 1;
+        }
+        if width < 4 {
+            return 2;
+        }
+        if width > 16 {
+            return 2;
+        }
+        if buckets == 0 {
+            return 3;
+        }
+        if buckets > 65536 {
+            return 3;
+        }
+        if rule == 1 {
+            if buckets % 2 == 1 {
+                return 3;
+            }
+            if mask != 0 {
+                return 4;
+            }
+            return 0;
+        }
+        if !is_power(buckets) {
+            return 3;
+        }
+        if rule == 0 {
+            if mask != 0 {
+                return 4;
+            }
+            return 0;
+        }
+        if mask >= buckets {
+            return 4;
+        }
+        0
+    }
+
+    pub fn new(rule: u32, width: u32, buckets: u32, mask: u32) -> Checked
+        ensures { λ r. ⌜ checkedIs r ≡ checkedSettings (record { rule = rule; width = width; buckets = buckets; mask = mask }) ⌝ }
+    {
+        let s = Settings {
+            rule,
+            width,
+            buckets,
+            mask,
+        };
+        let n = s.refusal();
+        if n == 0 {
+            Checked::Passed(s)
+        } else {
+            Checked::Refused(n)
+        }
+    }
+}
+
+// h times the FNV prime, modulo 2^64. The prime is 2^40 + 435, and 435 is 16 times 27 and 3.
+fn times_prime(h: u64) -> u64
+    ensures { λ r. ⌜ r ≡ h * fnvPrime % 2 ^ 64 ⌝ }
+{
+    let h3 = std::num::wrapping_add_u64(h, h << 1);
+    let h27 = std::num::wrapping_add_u64(h3, h3 << 3);
+    let h435 = std::num::wrapping_add_u64(h27 << 4, h3);
+    std::num::wrapping_add_u64(h << 40, h435)
+}
+
+// One byte into the hash.
+fn step(h: u64, b: u8) -> u64
+    ensures { λ r. ⌜ r ≡ fnvStep h b ⌝ }
+{
+    times_prime(h ^ (b as u64))
+}
+
+// The 64-bit FNV-1a hash of any bytes.
+pub fn fnv1a(bytes: &[u8]) -> u64
+    ensures { λ r. ⌜ r ≡ hashOf (now (bytes .entry)) ⌝ }
+{
+    let mut h = 14695981039346656037u64;
+    let mut i = 0;
+    while i < bytes.len() {
+        h = step(h, bytes[i]);
+        i += 1;
+    }
+    h
+}
+
+// A hash reduced to a bucket: a remainder under the ring rule, low bits where M is a power of two.
+fn reduce(s: Settings, h: u64) -> u32
+    requires { ⌜ settingsRefusal s ≡ none ⌝ }
+    ensures { λ r. ⌜ r ≡ h % modulus s ⌝ }
+{
+    let rule = s.rule;
+    let buckets = s.buckets as u64;
+    if rule == 1 {
+        (h % (buckets / 2)) as u32
+    } else {
+        (h & (buckets - 1)) as u32
+    }
+}
+
+// The low w bits of a hash, with 1 for 0.
+fn fingerprint_of(s: Settings, h: u64) -> u16
+    requires { ⌜ settingsRefusal s ≡ none ⌝ }
+    ensures { λ r. ⌜ r ≡ fingerprintOf s h ⌝ }
+{
+    let width = s.width;
+    let low = h & ((1u64 << width) - 1);
+    if low == 0 { 1 } else { low as u16 }
+}
+
+// The fingerprint and the home bucket of a tag, from one hash.
+pub fn entry_of(s: Settings, tag: &[u8]) -> TagEntry
+    ensures { λ r. ⌜ tagEntryIs r ≡ entryOf s (now (tag .entry)) ⌝ }
+{
+    let n = s.refusal();
+    if n != 0 {
+        return TagEntry::Refused(n);
+    }
+    if tag.len() == 0 {
+        return TagEntry::Refused(7);
+    }
+    if tag.len() > 64 {
+        return TagEntry::Refused(7);
+    }
+    let h = fnv1a(tag);
+    TagEntry::At(fingerprint_of(s, h), reduce(s, h >> 32))
+}
+
+fn offset_of(s: Settings, p: u16) -> u32
+    requires { ⌜ settingsRefusal s ≡ none ⌝ }
+    ensures { λ r. ⌜ r ≡ offsetOf s p ⌝ }
+{
+    let low = (p % 256) as u8;
+    let high = (p / 256) as u8;
+    reduce(s, step(step(14695981039346656037, low), high))
+}
+
+// The offset of any 16-bit value.
+pub fn offset(s: Settings, fingerprint: u16) -> OffsetAnswer
+    ensures { λ r. ⌜ offsetIs r ≡ offsetAnswer s fingerprint ⌝ }
+{
+    let n = s.refusal();
+    if n != 0 {
+        return OffsetAnswer::Refused(n);
+    }
+    OffsetAnswer::Is(offset_of(s, fingerprint))
+}
+
+// The other end of b's pair on the ring. Both sums are below twice l, so that one test takes the
+// remainder, and b is at least d where d is taken off.
+fn across(l: u32, d: u32, b: u32) -> u32
+    requires { ⌜ (d < l) × (l ≤ 32768) × (b < 2 * l) ⌝ }
+    ensures { λ r. ⌜ r ≡ acrossOf l d b ⌝ }
+{
+    if b < l {
+        let x = b + d;
+        if x < l { l + x } else { x }
+    } else {
+        let x = b - d;
+        if x < l { x } else { x - l }
+    }
+}
+
+// The candidates of a fingerprint in a bucket, in order.
+pub fn candidates(s: Settings, fingerprint: u16, bucket: u32) -> CandidateList
+    ensures { λ r. ⌜ Lists r (candidatesAnswer s fingerprint bucket) ⌝ }
+{
+    let n = s.refusal();
+    if n != 0 {
+        return CandidateList {
+            refusal: n,
+            count: 0,
+            buckets: [0; 4],
+        };
+    }
+    let m = s.buckets;
+    if bucket >= m {
+        return CandidateList {
+            refusal: 8,
+            count: 0,
+            buckets: [0; 4],
+        };
+    }
+    let d = offset_of(s, fingerprint);
+    let rule = s.rule;
+    if rule == 0 {
+        return CandidateList {
+            refusal: 0,
+            count: 2,
+            buckets: [bucket, bucket ^ d, 0, 0],
+        };
+    }
+    if rule == 1 {
+        let other = across(m / 2, d, bucket);
+        return CandidateList {
+            refusal: 0,
+            count: 2,
+            buckets: [bucket, other, 0, 0],
+        };
+    }
+    let k = s.mask;
+    let c = m - 1 - k;
+    CandidateList {
+        refusal: 0,
+        count: 4,
+        buckets: [bucket, bucket ^ (d & k), bucket ^ (d & c), bucket ^ d],
+    }
+}

@@ -1,0 +1,98 @@
+-- Sums: compared, changed at one place, counted by fours, and what follows for lists of small numbers.
+-- Assumes nothing.
+use mathlib.Core.Path.{_≡_, refl, ap}
+use mathlib.Core.Logic.{inl, inr, _≢_}
+use mathlib.Core.List.{List, [], _∷_}
+use Prim.Native.Nat.{ℕ, zero, suc, _+_, _*_, _/_, _≤_, _<_}
+use native.Mathlib.Omega.{arith}
+use lib.ListN.{length}
+use Rattle.lemmas.specs.Count.{hit, occ, _among_}
+use Rattle.lemmas.specs.Sums.{sumTo, total}
+use Rattle.lemmas.proofs.Count.{hit-cases, hit-refl, hit-of, hit-ne, hit-sym}
+
+pub sum-le : (n : ℕ) (f g : ℕ → ℕ) → ((i : ℕ) → i < n → f i ≤ g i) → sumTo n f ≤ sumTo n g
+sum-le zero f g h = omega arith
+sum-le (suc n) f g h = omega (arith, sum-le n f g (λ i k. h i (omega arith)), h n (omega arith))
+
+pub sum-eq : (n : ℕ) (f g : ℕ → ℕ) → ((i : ℕ) → i < n → f i ≡ g i) → sumTo n f ≡ sumTo n g
+sum-eq zero f g h = refl
+sum-eq (suc n) f g h = omega (arith, sum-eq n f g (λ i k. h i (omega arith)), h n (omega arith))
+
+pub sum-zero : (n : ℕ) (f : ℕ → ℕ) → ((i : ℕ) → i < n → f i ≡ 0) → sumTo n f ≡ 0
+sum-zero zero f h = refl
+sum-zero (suc n) f h = omega (arith, sum-zero n f (λ i k. h i (omega arith)), h n (omega arith))
+
+sum-one : (n : ℕ) → sumTo n (λ i. 1) ≡ n
+sum-one zero = refl
+sum-one (suc n) = omega (arith, sum-one n)
+
+sum-add : (n : ℕ) (f g : ℕ → ℕ) → sumTo n (λ i. f i + g i) ≡ sumTo n f + sumTo n g
+sum-add zero f g = refl
+sum-add (suc n) f g = omega (arith, sum-add n f g)
+
+-- two sums whose terms differ at i alone
+pub sum-change : (n i : ℕ) (f g : ℕ → ℕ) → ((j : ℕ) → j ≢ i → f j ≡ g j) → i < n → sumTo n f + g i ≡ sumTo n g + f i
+sum-change zero i f g h l = absurd (omega arith)
+sum-change (suc n) i f g h l = elim (hit-cases n i) [
+  | inl e ↦ omega (arith, sum-eq n f g (λ j k. h j (omega arith)), ap f e, ap g e)
+  | inr z ↦ let ne : n ≢ i = hit-ne n i z in omega (arith, sum-change n i f g h (omega arith), h n ne)
+]
+
+-- each number counted four times
+pub sum-fours : (n : ℕ) (f : ℕ → ℕ) → sumTo (4 * n) (λ i. f (i / 4)) ≡ 4 * sumTo n f
+sum-fours zero f = refl
+sum-fours (suc n) f =
+    let e : 4 * suc n ≡ suc (suc (suc (suc (4 * n)))) = omega arith in
+    rw e (omega (arith, sum-fours n f, at (4 * n) (omega arith), at (suc (4 * n)) (omega arith), at (suc (suc (4 * n))) (omega arith), at (suc (suc (suc (4 * n)))) (omega arith)))
+  where
+    at : (i : ℕ) → i / 4 ≡ n → f (i / 4) ≡ f n
+    at i e = ap f e
+
+-- ── occurrences, summed ──
+pub sum-hit-none : (n x : ℕ) → n ≤ x → sumTo n (hit x) ≡ 0
+sum-hit-none n x h = sum-zero n (hit x) (λ i k. elim (hit-cases x i) [ inl e ↦ absurd (omega arith) | inr z ↦ z ])
+
+pub sum-hit : (n x : ℕ) → x < n → sumTo n (hit x) ≡ 1
+sum-hit zero x h = absurd (omega arith)
+sum-hit (suc n) x h = elim (hit-cases x n) [
+  | inl e ↦ omega (arith, sum-hit-none n x (omega arith), hit-of x n e)
+  | inr z ↦ let ne : x ≢ n = hit-ne x n z in omega (arith, sum-hit n x (omega arith))
+]
+
+total-add : (f g : ℕ → ℕ) (l : List ℕ) → total (λ x. f x + g x) l ≡ total f l + total g l
+total-add f g [] = refl
+total-add f g (x ∷ l) = omega (arith, total-add f g l)
+
+total-none : (l : List ℕ) → total (λ x. 0) l ≡ 0
+total-none [] = refl
+total-none (x ∷ l) = omega (arith, total-none l)
+
+total-hit : (x : ℕ) (l : List ℕ) → total (λ y. hit y x) l ≡ occ x l
+total-hit x [] = refl
+total-hit x (y ∷ l) = omega (arith, total-hit x l, hit-sym x y)
+
+pub total-one : {A : Type 0} (l : List A) → total (λ x. 1) l ≡ length l
+total-one [] = refl
+total-one (x ∷ l) = omega (arith, total-one l)
+
+-- no number stands in l more than k times: l has at most k for each member of W
+pub total-occ : (k : ℕ) (l W : List ℕ) → ((x : ℕ) → occ x l ≤ k) → total (λ x. occ x W) l ≤ k * length W
+total-occ k l [] h = omega (arith, total-none l)
+total-occ k l (x ∷ W) h =
+    let e : k * suc (length W) ≡ k + k * length W = omega arith in
+    omega (arith, total-add (λ y. hit y x) (λ y. occ y W) l, total-hit x l, h x, total-occ k l W h)
+
+-- the members of W, all below n, are met on the way to n
+pub sum-occ : (n : ℕ) (W : List ℕ) → ((x : ℕ) → x among W → x < n) → sumTo n (λ i. occ i W) ≡ length W
+sum-occ n [] h = sum-zero n (λ i. 0) (λ i k. refl)
+sum-occ n (x ∷ W) h = omega (
+  arith,
+  sum-add n (λ i. hit i x) (λ i. occ i W),
+  sum-eq n (λ i. hit i x) (hit x) (λ i k. hit-sym i x),
+  sum-hit n x (h x (omega (arith, hit-refl x))),
+  sum-occ n W (λ y k. h y (omega arith)),
+)
+
+-- a list of numbers below n without repeats
+pub few : (n : ℕ) (W : List ℕ) → ((x : ℕ) → x among W → x < n) → ((x : ℕ) → occ x W ≤ 1) → length W ≤ n
+few n W h o = omega (arith, sum-occ n W h, sum-le n (λ i. occ i W) (λ i. 1) (λ i k. o i), sum-one n)

@@ -1,0 +1,4 @@
+-- What every layer's definitions may use.
+pub mod Count
+pub mod Members
+pub mod Sums

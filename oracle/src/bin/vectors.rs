@@ -1,0 +1,396 @@
+//! The requests on the index rules that the test program is run on, and their answers.
+//!
+//! `vectors requests` writes the requests, and `vectors answers` reads requests from standard
+//! input and writes each with its answer.
+
+use oracle::fnv_strings::KNOWN;
+use oracle::index::{self, Answer, Settings, MASKED, PLAIN, RING};
+use std::collections::HashSet;
+use std::io::{self, BufRead, Write};
+
+const RULES: [u32; 3] = [PLAIN, RING, MASKED];
+const SIZES: [u32; 8] = [1, 2, 6, 10, 1_024, 4_096, 65_534, 65_536];
+
+/// Bucket counts, good and bad, around the edges of the check.
+const COUNTS: [u32; 28] = [
+    0, 1, 2, 3, 4, 5, 6, 7, 8, 9, 10, 12, 1023, 1024, 1025, 4096, 32768, 49152, 65534, 65535,
+    65536, 65537, 65538, 98304, 131072, 2147483648, 4294967294, 4294967295,
+];
+
+/// A fixed sequence of numbers without a pattern (splitmix64).
+struct Mix(u64);
+
+impl Mix {
+    fn next(&mut self) -> u64 {
+        self.0 = self.0.wrapping_add(0x9e37_79b9_7f4a_7c15);
+        let z = (self.0 ^ (self.0 >> 30)).wrapping_mul(0xbf58_476d_1ce4_e5b9);
+        let z = (z ^ (z >> 27)).wrapping_mul(0x94d0_49bb_1331_11eb);
+        z ^ (z >> 31)
+    }
+
+    fn below(&mut self, n: u64) -> u32 {
+        (self.next() % n) as u32
+    }
+
+    fn bytes(&mut self, n: usize) -> Vec<u8> {
+        (0..n).map(|_| self.next() as u8).collect()
+    }
+}
+
+/// The requests in order, each once.
+#[derive(Default)]
+struct Requests {
+    lines: Vec<String>,
+    seen: HashSet<String>,
+}
+
+impl Requests {
+    fn push(&mut self, line: String) {
+        if self.seen.insert(line.clone()) {
+            self.lines.push(line);
+        }
+    }
+
+    fn hash(&mut self, bytes: &[u8]) {
+        self.push(format!("hash {}", to_hex(bytes)));
+    }
+
+    fn settings(&mut self, s: Settings) {
+        self.push(format!("settings {}", numbers(s)));
+    }
+
+    fn tag(&mut self, s: Settings, tag: &[u8]) {
+        self.push(format!("tag {} {}", numbers(s), to_hex(tag)));
+    }
+
+    fn offset(&mut self, s: Settings, value: u16) {
+        self.push(format!("offset {} {value}", numbers(s)));
+    }
+
+    fn candidates(&mut self, s: Settings, value: u16, bucket: u32) {
+        self.push(format!("candidates {} {value} {bucket}", numbers(s)));
+    }
+}
+
+fn numbers(s: Settings) -> String {
+    format!("{} {} {} {}", s.rule, s.width, s.buckets, s.mask)
+}
+
+fn to_hex(bytes: &[u8]) -> String {
+    bytes.iter().map(|b| format!("{b:02x}")).collect()
+}
+
+fn from_hex(text: &str) -> Vec<u8> {
+    (0..text.len())
+        .step_by(2)
+        .map(|i| u8::from_str_radix(&text[i..i + 2], 16).expect("hexadecimal digits"))
+        .collect()
+}
+
+fn hash_requests(out: &mut Requests, mix: &mut Mix) {
+    for known in KNOWN {
+        out.hash(&known.bytes());
+    }
+    for byte in [0x00, 0x01, 0x7f, 0x80, 0xff] {
+        out.hash(&[byte]);
+        out.hash(&[byte; 64]);
+        out.hash(&[byte; 1_000]);
+    }
+    for length in [3, 7, 8, 9, 31, 255, 256, 257, 1_024, 1_997] {
+        let bytes = mix.bytes(length);
+        out.hash(&bytes);
+    }
+}
+
+fn settings_requests(out: &mut Requests) {
+    let max = u32::MAX;
+    // One number at a time at its edges.
+    for rule in [0, 1, 2, 3, 4, max] {
+        for width in [0, 3, 4, 12, 16, 17, max] {
+            out.settings(Settings::new(rule, width, 4_096, 0));
+        }
+        for buckets in COUNTS {
+            out.settings(Settings::new(rule, 12, buckets, 0));
+        }
+        for buckets in [1, 2, 4, 6, 4_096, 65_536] {
+            for mask in [0, 1, buckets / 2, buckets - 1, buckets, buckets + 1, max] {
+                out.settings(Settings::new(rule, 12, buckets, mask));
+            }
+        }
+    }
+    // Several faults at once: the first in the order of the checks is the answer.
+    for rule in [0, 1, 2, 3, max] {
+        for width in [3, 4, 16, 17] {
+            for buckets in [0, 1, 3, 6, 8, 65_537] {
+                for mask in [0, 5, 8, max] {
+                    out.settings(Settings::new(rule, width, buckets, mask));
+                }
+            }
+        }
+    }
+}
+
+/// A few good settings of each rule, and one refused by each of the four checks.
+fn mixed_settings() -> Vec<Settings> {
+    let mut all = vec![];
+    for width in [4, 12, 16] {
+        for buckets in [1, 2, 8, 1_024, 4_096, 65_536] {
+            all.push(Settings::new(PLAIN, width, buckets, 0));
+            all.push(Settings::new(MASKED, width, buckets, buckets / 2));
+        }
+        for buckets in [2, 6, 10, 1_000, 65_534, 65_536] {
+            all.push(Settings::new(RING, width, buckets, 0));
+        }
+    }
+    all.extend([
+        Settings::new(3, 12, 4_096, 0),
+        Settings::new(PLAIN, 3, 4_096, 0),
+        Settings::new(RING, 17, 4_096, 0),
+        Settings::new(PLAIN, 12, 6, 0),
+        Settings::new(RING, 12, 7, 0),
+        Settings::new(MASKED, 12, 65_537, 0),
+        Settings::new(PLAIN, 12, 4_096, 1),
+        Settings::new(RING, 12, 6, 1),
+        Settings::new(MASKED, 12, 4_096, 4_096),
+    ]);
+    all
+}
+
+fn tag_requests(out: &mut Requests, mix: &mut Mix) {
+    for s in mixed_settings() {
+        for length in [0, 1, 63, 64, 65] {
+            let tag = mix.bytes(length);
+            out.tag(s, &tag);
+        }
+        out.tag(s, b"foobar");
+    }
+    // Short tags whose hash ends in zeros, so that the fingerprint is 1 in place of 0.
+    for (width, count) in [(4, 4), (8, 3), (12, 2), (16, 1)] {
+        let zeros = (0..=u32::MAX)
+            .map(|n| n.to_le_bytes())
+            .filter(|tag| index::fnv1a(tag).trailing_zeros() >= width);
+        for tag in zeros.take(count) {
+            out.tag(Settings::new(PLAIN, width, 4_096, 0), &tag);
+            out.tag(Settings::new(RING, width, 6, 0), &tag);
+            out.tag(Settings::new(MASKED, width, 1_024, 77), &tag);
+        }
+    }
+    for length in [66, 128, 256, 1_000] {
+        let tag = mix.bytes(length);
+        out.tag(Settings::new(PLAIN, 12, 4_096, 0), &tag);
+    }
+}
+
+/// Fingerprints at the edges of a width, and beyond: the rules hold for any 16-bit value.
+fn edge_values(width: u32) -> Vec<u16> {
+    let past = u16::try_from(1u32 << width).ok();
+    let mut values = vec![0, 1, ((1u32 << width) - 1) as u16];
+    values.extend(past);
+    values.push(u16::MAX);
+    values.dedup();
+    values
+}
+
+fn offset_requests(out: &mut Requests, mix: &mut Mix) {
+    for s in mixed_settings() {
+        for value in edge_values(s.width.clamp(4, 16)) {
+            out.offset(s, value);
+        }
+        out.offset(s, 256);
+        out.offset(s, mix.next() as u16);
+    }
+}
+
+/// The first value from 1 on that has the offset d, if there is one.
+fn value_with_offset(s: Settings, d: u32) -> Option<u16> {
+    (1..=u16::MAX).find(|&value| index::offset(s, value) == Ok(d))
+}
+
+/// The first and the last bucket of the table and of each block of the ring.
+fn edge_buckets(m: u32) -> [u32; 4] {
+    let l = m / 2;
+    [0, l.saturating_sub(1), l, m - 1]
+}
+
+fn candidates_requests(out: &mut Requests, mix: &mut Mix) {
+    for rule in RULES {
+        for buckets in SIZES {
+            let masks = match rule {
+                MASKED => vec![
+                    0,
+                    1.min(buckets - 1),
+                    buckets / 2,
+                    buckets - 1,
+                    mix.below(u64::from(buckets)),
+                ],
+                _ => vec![0],
+            };
+            for (i, &mask) in masks.iter().enumerate() {
+                // One width is enough where only the mask differs: a width shows in its values.
+                let widths: &[u32] = if i == 0 { &[4, 12, 16] } else { &[12] };
+                for &width in widths {
+                    candidates_of(out, mix, Settings::new(rule, width, buckets, mask));
+                }
+            }
+        }
+    }
+    // Refused settings come before a refused bucket.
+    for s in mixed_settings() {
+        if s.check().is_err() {
+            out.candidates(s, 1, 0);
+            out.candidates(s, 1, u32::MAX);
+        }
+    }
+    // The worked examples, by a value that has their offset.
+    for (rule, buckets, mask, d, from) in [
+        (PLAIN, 8, 0, 5, [6, 3]),
+        (PLAIN, 8, 0, 3, [4, 7]),
+        (RING, 10, 0, 4, [3, 7]),
+        (MASKED, 16, 12, 13, [6, 10]),
+    ] {
+        let s = Settings::new(rule, 12, buckets, mask);
+        let value = value_with_offset(s, d).expect("every small offset has a value");
+        for bucket in from {
+            out.candidates(s, value, bucket);
+        }
+    }
+    // Small tables whole, from every bucket.
+    for (rule, buckets, mask) in [
+        (PLAIN, 8, 0),
+        (RING, 6, 0),
+        (RING, 10, 0),
+        (MASKED, 16, 12),
+        (MASKED, 8, 5),
+    ] {
+        let s = Settings::new(rule, 4, buckets, mask);
+        for value in [1, 2, 7, 15] {
+            for bucket in 0..buckets {
+                out.candidates(s, value, bucket);
+            }
+        }
+    }
+    // Numbers anywhere in their ranges.
+    for _ in 0..300 {
+        let rule = mix.below(3);
+        let buckets = match rule {
+            RING => 2 * (1 + mix.below(32_768)),
+            _ => 1 << mix.below(17),
+        };
+        let mask = match rule {
+            MASKED => mix.below(u64::from(buckets)),
+            _ => 0,
+        };
+        let s = Settings::new(rule, 4 + mix.below(13), buckets, mask);
+        let bucket = mix.below(u64::from(buckets));
+        out.candidates(s, mix.next() as u16, bucket);
+    }
+}
+
+fn candidates_of(out: &mut Requests, mix: &mut Mix, s: Settings) {
+    if s.check().is_err() {
+        for bucket in [0, s.buckets] {
+            out.candidates(s, 1, bucket);
+        }
+        return;
+    }
+    let mut values = edge_values(s.width);
+    values.extend(value_with_offset(s, 0));
+    values.extend(value_with_offset(s, s.modulus() as u32 - 1));
+    for value in values {
+        for bucket in edge_buckets(s.buckets) {
+            out.candidates(s, value, bucket);
+        }
+        let bucket = mix.below(u64::from(s.buckets));
+        out.candidates(s, value, bucket);
+    }
+    for bucket in [s.buckets, s.buckets + 1, u32::MAX] {
+        out.candidates(s, 1, bucket);
+    }
+}
+
+fn requests() -> Vec<String> {
+    let mut out = Requests::default();
+    let mut mix = Mix(1);
+    hash_requests(&mut out, &mut mix);
+    settings_requests(&mut out);
+    tag_requests(&mut out, &mut mix);
+    offset_requests(&mut out, &mut mix);
+    candidates_requests(&mut out, &mut mix);
+    out.lines
+}
+
+fn shown<T>(answer: Answer<T>, show: impl Fn(T) -> String) -> String {
+    match answer {
+        Ok(value) => show(value),
+        Err(number) => format!("refused {number}"),
+    }
+}
+
+fn answer(request: &str) -> String {
+    let fields: Vec<&str> = request.split(' ').collect();
+    let number = |i: usize| -> u32 { fields[i].parse().expect("a number") };
+    let value = |i: usize| -> u16 { fields[i].parse().expect("a 16-bit number") };
+    let settings = || Settings::new(number(1), number(2), number(3), number(4));
+    match fields[0] {
+        "hash" => format!("{:016x}", index::fnv1a(&from_hex(fields[1]))),
+        "settings" => shown(settings().check(), |()| "good".to_string()),
+        "tag" => shown(
+            index::entry(settings(), &from_hex(fields[5])),
+            |(fingerprint, home)| format!("{fingerprint} {home}"),
+        ),
+        "offset" => shown(index::offset(settings(), value(5)), |d| d.to_string()),
+        "candidates" => shown(index::candidates(settings(), value(5), number(6)), |list| {
+            let list: Vec<String> = list.iter().map(u32::to_string).collect();
+            list.join(" ")
+        }),
+        kind => panic!("no such request: {kind}"),
+    }
+}
+
+fn main() -> io::Result<()> {
+    let mut out = io::BufWriter::new(io::stdout().lock());
+    match std::env::args().nth(1).as_deref() {
+        Some("requests") => {
+            for line in requests() {
+                writeln!(out, "{line}")?;
+            }
+        }
+        Some("answers") => {
+            for line in io::stdin().lock().lines() {
+                let line = line?;
+                writeln!(out, "{line} = {}", answer(&line))?;
+            }
+        }
+        _ => {
+            eprintln!("usage: vectors requests | vectors answers");
+            std::process::exit(2);
+        }
+    }
+    out.flush()
+}
+
+#[cfg(test)]
+mod tests {
+    use super::*;
+
+    /// The test program reads into a fixed array, and cuts a hexadecimal field at 4,096 bytes.
+    #[test]
+    fn requests_fit_the_program() {
+        let all = requests();
+        assert!(all.iter().map(|line| line.len() + 1).sum::<usize>() < 250_000);
+        assert!(all.iter().all(|line| line.len() <= 4_000));
+    }
+
+    #[test]
+    fn answers_as_text() {
+        assert_eq!(answer("hash "), "cbf29ce484222325");
+        assert_eq!(answer("hash 666f6f626172"), "85944171f73967e8");
+        assert_eq!(answer("settings 1 12 6 0"), "good");
+        assert_eq!(answer("settings 0 12 6 0"), "refused 3");
+        assert_eq!(answer("tag 0 12 4096 0 61"), "3212 3148");
+        assert_eq!(answer("tag 0 12 4096 0 "), "refused 7");
+        assert_eq!(answer("offset 0 12 1 0 65535"), "0");
+        assert_eq!(answer("candidates 1 12 2 0 9 1"), "1 0");
+        assert_eq!(answer("candidates 1 12 2 0 9 2"), "refused 8");
+    }
+}

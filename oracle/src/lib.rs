@@ -1,0 +1,5 @@
+//! A second implementation of the filter, written from the rules alone, that the proved one is
+//! compared with.
+
+pub mod fnv_strings;
+pub mod index;
