@@ -3,7 +3,6 @@ pub mod Good
 pub mod Ring
 pub mod Rules
 pub mod Laws
-pub mod Examples
 pub mod Refusals
 pub mod Answers
 pub mod Computes

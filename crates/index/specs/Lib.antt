@@ -5,4 +5,3 @@ pub mod Hash
 pub mod Candidates
 pub mod Answers
 pub mod Laws
-pub mod Examples

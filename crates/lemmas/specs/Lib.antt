@@ -2,3 +2,4 @@
 pub mod Count
 pub mod Members
 pub mod Sums
+pub mod Bytes
