@@ -58,8 +58,12 @@ impl Settings {
         }
     }
 
+    /// The remainder of a hash by the modulus, which but for the ring is a power of two.
     fn reduce(self, hash: u64) -> u32 {
-        (hash % self.modulus()) as u32
+        match self.rule {
+            RING => (hash % self.modulus()) as u32,
+            _ => hash as u32 & (self.buckets - 1),
+        }
     }
 
     fn offset_unchecked(self, value: u16) -> u32 {
@@ -67,9 +71,9 @@ impl Settings {
     }
 
     /// The candidates, in order, of an entry with offset `d` in bucket `b`.
-    fn spread(self, d: u32, b: u32) -> Vec<u32> {
+    fn spread(self, d: u32, b: u32) -> Candidates {
         match self.rule {
-            PLAIN => vec![b, b ^ d],
+            PLAIN => Candidates::two(b, b ^ d),
             RING => {
                 let l = i64::from(self.buckets / 2);
                 let (from, by) = (i64::from(b), i64::from(d));
@@ -78,13 +82,55 @@ impl Settings {
                 } else {
                     (from - by).rem_euclid(l)
                 };
-                vec![b, other as u32]
+                Candidates::two(b, other as u32)
             }
             _ => {
                 let rest = self.buckets - 1 - self.mask;
-                vec![b, b ^ (d & self.mask), b ^ (d & rest), b ^ d]
+                Candidates::four(b, b ^ (d & self.mask), b ^ (d & rest), b ^ d)
             }
         }
+    }
+
+    /// The candidates of a value in a bucket, where settings and bucket are known to be good.
+    pub(crate) fn candidates_unchecked(self, value: u16, bucket: u32) -> Candidates {
+        self.spread(self.offset_unchecked(value), bucket)
+    }
+
+    /// The fingerprint and the home bucket of a tag, where the settings are known to be good.
+    pub(crate) fn entry_unchecked(self, tag: &[u8]) -> Answer<(u16, u32)> {
+        if tag.is_empty() || tag.len() > 64 {
+            return Err(7);
+        }
+        let hash = fnv1a(tag);
+        let fingerprint = (hash & ((1 << self.width) - 1)).max(1) as u16;
+        Ok((fingerprint, self.reduce(hash >> 32)))
+    }
+}
+
+/// Two or four candidates in order, with no heap.
+#[derive(Clone, Copy, Debug)]
+pub(crate) struct Candidates {
+    list: [u32; 4],
+    count: usize,
+}
+
+impl Candidates {
+    fn two(a: u32, b: u32) -> Self {
+        Candidates {
+            list: [a, b, 0, 0],
+            count: 2,
+        }
+    }
+
+    fn four(a: u32, b: u32, c: u32, d: u32) -> Self {
+        Candidates {
+            list: [a, b, c, d],
+            count: 4,
+        }
+    }
+
+    pub(crate) fn as_slice(&self) -> &[u32] {
+        &self.list[..self.count]
     }
 }
 
@@ -98,12 +144,7 @@ pub fn fnv1a(bytes: &[u8]) -> u64 {
 /// The fingerprint and the home bucket of a tag.
 pub fn entry(settings: Settings, tag: &[u8]) -> Answer<(u16, u32)> {
     settings.check()?;
-    if tag.is_empty() || tag.len() > 64 {
-        return Err(7);
-    }
-    let hash = fnv1a(tag);
-    let fingerprint = (hash % (1 << settings.width)).max(1) as u16;
-    Ok((fingerprint, settings.reduce(hash >> 32)))
+    settings.entry_unchecked(tag)
 }
 
 /// The offset of any 16-bit value.
@@ -118,7 +159,10 @@ pub fn candidates(settings: Settings, value: u16, bucket: u32) -> Answer<Vec<u32
     if bucket >= settings.buckets {
         return Err(8);
     }
-    Ok(settings.spread(settings.offset_unchecked(value), bucket))
+    Ok(settings
+        .candidates_unchecked(value, bucket)
+        .as_slice()
+        .to_vec())
 }
 
 #[cfg(test)]
@@ -187,20 +231,20 @@ mod tests {
     #[test]
     fn partners() {
         let plain = Settings::new(PLAIN, 12, 8, 0);
-        assert_eq!(plain.spread(5, 6), [6, 3]);
-        assert_eq!(plain.spread(3, 4), [4, 7]);
+        assert_eq!(plain.spread(5, 6).as_slice(), [6, 3]);
+        assert_eq!(plain.spread(3, 4).as_slice(), [4, 7]);
         let ring = Settings::new(RING, 12, 10, 0);
-        assert_eq!(ring.spread(4, 3), [3, 7]);
-        assert_eq!(ring.spread(4, 7), [7, 3]);
+        assert_eq!(ring.spread(4, 3).as_slice(), [3, 7]);
+        assert_eq!(ring.spread(4, 7).as_slice(), [7, 3]);
         let masked = Settings::new(MASKED, 12, 16, 12);
-        assert_eq!(masked.spread(13, 6), [6, 10, 7, 11]);
-        assert_eq!(masked.spread(13, 10), [10, 6, 11, 7]);
+        assert_eq!(masked.spread(13, 6).as_slice(), [6, 10, 7, 11]);
+        assert_eq!(masked.spread(13, 10).as_slice(), [10, 6, 11, 7]);
     }
 
     #[test]
     fn every_candidate_leads_to_the_same_set() {
         let set = |settings: Settings, d: u32, b: u32| {
-            let mut list = settings.spread(d, b);
+            let mut list = settings.spread(d, b).as_slice().to_vec();
             list.sort_unstable();
             list.dedup();
             list

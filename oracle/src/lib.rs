@@ -3,3 +3,6 @@
 
 pub mod fnv_strings;
 pub mod index;
+pub mod model;
+pub mod requests;
+pub mod table;

@@ -4,9 +4,10 @@
 //! input and writes each with its answer.
 
 use oracle::fnv_strings::KNOWN;
-use oracle::index::{self, Answer, Settings, MASKED, PLAIN, RING};
+use oracle::index::{self, Settings, MASKED, PLAIN, RING};
+use oracle::requests::{from_hex, listed, numbers, run, shown, to_hex, Mix};
 use std::collections::HashSet;
-use std::io::{self, BufRead, Write};
+use std::io;
 
 const RULES: [u32; 3] = [PLAIN, RING, MASKED];
 const SIZES: [u32; 8] = [1, 2, 6, 10, 1_024, 4_096, 65_534, 65_536];
@@ -16,26 +17,6 @@ const COUNTS: [u32; 28] = [
     0, 1, 2, 3, 4, 5, 6, 7, 8, 9, 10, 12, 1023, 1024, 1025, 4096, 32768, 49152, 65534, 65535,
     65536, 65537, 65538, 98304, 131072, 2147483648, 4294967294, 4294967295,
 ];
-
-/// A fixed sequence of numbers without a pattern (splitmix64).
-struct Mix(u64);
-
-impl Mix {
-    fn next(&mut self) -> u64 {
-        self.0 = self.0.wrapping_add(0x9e37_79b9_7f4a_7c15);
-        let z = (self.0 ^ (self.0 >> 30)).wrapping_mul(0xbf58_476d_1ce4_e5b9);
-        let z = (z ^ (z >> 27)).wrapping_mul(0x94d0_49bb_1331_11eb);
-        z ^ (z >> 31)
-    }
-
-    fn below(&mut self, n: u64) -> u32 {
-        (self.next() % n) as u32
-    }
-
-    fn bytes(&mut self, n: usize) -> Vec<u8> {
-        (0..n).map(|_| self.next() as u8).collect()
-    }
-}
 
 /// The requests in order, each once.
 #[derive(Default)]
@@ -70,21 +51,6 @@ impl Requests {
     fn candidates(&mut self, s: Settings, value: u16, bucket: u32) {
         self.push(format!("candidates {} {value} {bucket}", numbers(s)));
     }
-}
-
-fn numbers(s: Settings) -> String {
-    format!("{} {} {} {}", s.rule, s.width, s.buckets, s.mask)
-}
-
-fn to_hex(bytes: &[u8]) -> String {
-    bytes.iter().map(|b| format!("{b:02x}")).collect()
-}
-
-fn from_hex(text: &str) -> Vec<u8> {
-    (0..text.len())
-        .step_by(2)
-        .map(|i| u8::from_str_radix(&text[i..i + 2], 16).expect("hexadecimal digits"))
-        .collect()
 }
 
 fn hash_requests(out: &mut Requests, mix: &mut Mix) {
@@ -197,7 +163,7 @@ fn offset_requests(out: &mut Requests, mix: &mut Mix) {
             out.offset(s, value);
         }
         out.offset(s, 256);
-        out.offset(s, mix.next() as u16);
+        out.offset(s, mix.draw() as u16);
     }
 }
 
@@ -282,7 +248,7 @@ fn candidates_requests(out: &mut Requests, mix: &mut Mix) {
         };
         let s = Settings::new(rule, 4 + mix.below(13), buckets, mask);
         let bucket = mix.below(u64::from(buckets));
-        out.candidates(s, mix.next() as u16, bucket);
+        out.candidates(s, mix.draw() as u16, bucket);
     }
 }
 
@@ -319,13 +285,6 @@ fn requests() -> Vec<String> {
     out.lines
 }
 
-fn shown<T>(answer: Answer<T>, show: impl Fn(T) -> String) -> String {
-    match answer {
-        Ok(value) => show(value),
-        Err(number) => format!("refused {number}"),
-    }
-}
-
 fn answer(request: &str) -> String {
     let fields: Vec<&str> = request.split(' ').collect();
     let number = |i: usize| -> u32 { fields[i].parse().expect("a number") };
@@ -340,33 +299,14 @@ fn answer(request: &str) -> String {
         ),
         "offset" => shown(index::offset(settings(), value(5)), |d| d.to_string()),
         "candidates" => shown(index::candidates(settings(), value(5), number(6)), |list| {
-            let list: Vec<String> = list.iter().map(u32::to_string).collect();
-            list.join(" ")
+            listed(&list)
         }),
         kind => panic!("no such request: {kind}"),
     }
 }
 
 fn main() -> io::Result<()> {
-    let mut out = io::BufWriter::new(io::stdout().lock());
-    match std::env::args().nth(1).as_deref() {
-        Some("requests") => {
-            for line in requests() {
-                writeln!(out, "{line}")?;
-            }
-        }
-        Some("answers") => {
-            for line in io::stdin().lock().lines() {
-                let line = line?;
-                writeln!(out, "{line} = {}", answer(&line))?;
-            }
-        }
-        _ => {
-            eprintln!("usage: vectors requests | vectors answers");
-            std::process::exit(2);
-        }
-    }
-    out.flush()
+    run("vectors", requests, answer)
 }
 
 #[cfg(test)]

@@ -1,0 +1,87 @@
+-- `histories::bytes_at` meets its contract: the place and the count stay within their slices, and no store changes a length.
+-- Assumes nothing.
+use borrow.Author.Needs.{needs}
+use mathlib.Core.Path.{_≡_}
+use Prim.Native.Nat.{_≤_, _-_}
+use native.Mathlib.Omega.{arith}
+use lib.ListN.{length, length-set}
+use Rattle.io.proofs.Counting.{counts}
+use Rattle.histories.proofs.bytes_at.Statement.{statement}
+use Rattle.histories.proofs.bytes_at.Tie as tie
+
+abbrev Inv-loop : tie.InvT-loop
+Inv-loop s at out₀ n₀ i₀ out n i = (i ≤ length s) × (n ≤ length out) × (length out ≡ length out₀)
+
+abbrev μ-loop : tie.MeasureT-loop
+μ-loop s at out₀ n₀ i₀ out n i = length out - n
+
+loop-holds : tie.Need-loop-holds Inv-loop μ-loop
+loop-holds c = search needs
+
+sub-if1 : tie.Need-sub-if1 Inv-loop μ-loop
+sub-if1 c = search needs
+
+same-length : tie.Need-same-length Inv-loop μ-loop
+same-length c = search needs
+
+returns : tie.Need-returns Inv-loop μ-loop
+returns c = counts _ _ (search needs)
+
+shared-slice-read-digit : tie.Need-shared-slice-read-digit Inv-loop μ-loop
+shared-slice-read-digit c = search needs
+
+digit-requires : tie.Need-digit-requires Inv-loop μ-loop
+digit-requires c κs = search needs
+
+add-digit : tie.Need-add-digit Inv-loop μ-loop
+add-digit c = search needs
+
+shared-slice-read-digit-2 : tie.Need-shared-slice-read-digit-2 Inv-loop μ-loop
+shared-slice-read-digit-2 c = search needs
+
+digit-requires-2 : tie.Need-digit-requires-2 Inv-loop μ-loop
+digit-requires-2 c κs = search needs
+
+slice-write-out : tie.Need-slice-write-out Inv-loop μ-loop
+slice-write-out c = search needs
+
+add-n : tie.Need-add-n Inv-loop μ-loop
+add-n c = search needs
+
+add-i : tie.Need-add-i Inv-loop μ-loop
+add-i c = search needs
+
+loop-less : tie.Need-loop-less Inv-loop μ-loop
+loop-less c = simp length-set (omega arith)
+
+loop-again : tie.Need-loop-again Inv-loop μ-loop
+loop-again c = simp length-set (search needs)
+
+same-length-2 : tie.Need-same-length-2 Inv-loop μ-loop
+same-length-2 c = search needs
+
+returns-2 : tie.Need-returns-2 Inv-loop μ-loop
+returns-2 c = counts _ _ (search needs)
+
+pub bytes-at-spec : {M : Type 1} → statement M
+bytes-at-spec =
+    tie.close
+    (tie.spec
+    Inv-loop
+    μ-loop
+    loop-holds
+    sub-if1
+    same-length
+    returns
+    shared-slice-read-digit
+    digit-requires
+    add-digit
+    shared-slice-read-digit-2
+    digit-requires-2
+    slice-write-out
+    add-n
+    add-i
+    loop-less
+    loop-again
+    same-length-2
+    returns-2)

@@ -1,0 +1,80 @@
+//! What the programs that write and answer requests have in common.
+
+use crate::index::{Answer, Settings};
+use std::io::{self, BufRead, Write};
+
+/// A fixed sequence of numbers without a pattern (splitmix64).
+pub struct Mix(pub u64);
+
+impl Mix {
+    pub fn draw(&mut self) -> u64 {
+        self.0 = self.0.wrapping_add(0x9e37_79b9_7f4a_7c15);
+        let z = (self.0 ^ (self.0 >> 30)).wrapping_mul(0xbf58_476d_1ce4_e5b9);
+        let z = (z ^ (z >> 27)).wrapping_mul(0x94d0_49bb_1331_11eb);
+        z ^ (z >> 31)
+    }
+
+    pub fn below(&mut self, n: u64) -> u32 {
+        (self.draw() % n) as u32
+    }
+
+    pub fn bytes(&mut self, n: usize) -> Vec<u8> {
+        (0..n).map(|_| self.draw() as u8).collect()
+    }
+}
+
+pub fn numbers(s: Settings) -> String {
+    format!("{} {} {} {}", s.rule, s.width, s.buckets, s.mask)
+}
+
+pub fn to_hex(bytes: &[u8]) -> String {
+    bytes.iter().map(|b| format!("{b:02x}")).collect()
+}
+
+pub fn from_hex(text: &str) -> Vec<u8> {
+    (0..text.len())
+        .step_by(2)
+        .map(|i| u8::from_str_radix(&text[i..i + 2], 16).expect("hexadecimal digits"))
+        .collect()
+}
+
+/// Numbers with a space between.
+pub fn listed<T: ToString>(list: &[T]) -> String {
+    let list: Vec<String> = list.iter().map(T::to_string).collect();
+    list.join(" ")
+}
+
+pub fn shown<T>(answer: Answer<T>, show: impl Fn(T) -> String) -> String {
+    match answer {
+        Ok(value) => show(value),
+        Err(number) => format!("refused {number}"),
+    }
+}
+
+/// The program `name`: with the word `requests` it writes the requests, and with `answers` it reads
+/// requests from standard input and writes each with its answer.
+pub fn run(
+    name: &str,
+    requests: impl Fn() -> Vec<String>,
+    mut answer: impl FnMut(&str) -> String,
+) -> io::Result<()> {
+    let mut out = io::BufWriter::new(io::stdout().lock());
+    match std::env::args().nth(1).as_deref() {
+        Some("requests") => {
+            for line in requests() {
+                writeln!(out, "{line}")?;
+            }
+        }
+        Some("answers") => {
+            for line in io::stdin().lock().lines() {
+                let line = line?;
+                writeln!(out, "{line} = {}", answer(&line))?;
+            }
+        }
+        _ => {
+            eprintln!("usage: {name} requests | {name} answers");
+            std::process::exit(2);
+        }
+    }
+    out.flush()
+}

@@ -1,0 +1,372 @@
+//! The table held to the reference model, and its searches to a search written word for word.
+
+use oracle::index::{self, Answer, Settings, MASKED, PLAIN, RING};
+use oracle::model::{Class, Model};
+use oracle::requests::Mix;
+use oracle::table::{clear, hold, lookup, release, view, view_check};
+use std::collections::{HashSet, VecDeque};
+
+fn cleared(settings: Settings) -> Vec<u16> {
+    let mut table = vec![0xffff; 4 * settings.buckets as usize];
+    assert_eq!(clear(settings, &mut table), Ok(()));
+    assert!(table.iter().all(|&cell| cell == 0));
+    table
+}
+
+/// Scratch that held something before.
+fn dirty(kind: u32, words: usize, mix: &mut Mix) -> Vec<u32> {
+    let n = words as u32;
+    match kind {
+        0 => vec![0; words],
+        1 => vec![u32::MAX; words],
+        // Each word its own number, or its number within a half: as if all were queued.
+        2 => (0..n).collect(),
+        3 => (0..n).map(|i| i % (n / 2).max(1)).collect(),
+        4 => (0..n).map(|i| n - i).collect(),
+        _ => (0..n).map(|_| mix.draw() as u32).collect(),
+    }
+}
+
+/// A tag of the i-th kind, so that a history has repeats.
+fn tag(i: u32) -> Vec<u8> {
+    let mut mix = Mix(u64::from(i));
+    let length = 1 + mix.below(64) as usize;
+    mix.bytes(length)
+}
+
+/// The filled cells of a table as classes, ascending.
+fn classes(settings: Settings, table: &[u16]) -> Vec<Class> {
+    let mut all: Vec<Class> = (0..settings.buckets)
+        .flat_map(|b| view(settings, table, b).iter().map(move |&cell| (b, cell)))
+        .filter(|&(_, cell)| cell != 0)
+        .map(|(b, cell)| Class::of(settings, cell, b).unwrap())
+        .collect();
+    all.sort_unstable();
+    all
+}
+
+/// The hold as the rules tell it: a queue of paths, and a set of marked buckets.
+fn word_for_word(settings: Settings, table: &mut [u16], tag: &[u8]) -> Answer<u32> {
+    let cells = |b: u32| 4 * b as usize..4 * b as usize + 4;
+    let empty = |table: &[u16], b: u32| cells(b).find(|&i| table[i] == 0);
+    let (fingerprint, home) = index::entry(settings, tag)?;
+    let candidates = index::candidates(settings, fingerprint, home)?;
+    for &b in &candidates {
+        if let Some(i) = empty(table, b) {
+            table[i] = fingerprint;
+            return Ok(0);
+        }
+    }
+    let mut marked = HashSet::new();
+    let mut queue: VecDeque<(u32, Vec<usize>)> = VecDeque::new();
+    for b in candidates {
+        if marked.insert(b) {
+            queue.push_back((b, vec![]));
+        }
+    }
+    while let Some((b, path)) = queue.pop_front() {
+        for i in cells(b) {
+            for next in index::candidates(settings, table[i], b)? {
+                if !marked.insert(next) {
+                    continue;
+                }
+                let mut path = path.clone();
+                path.push(i);
+                if let Some(mut space) = empty(table, next) {
+                    for &i in path.iter().rev() {
+                        table[space] = table[i];
+                        space = i;
+                    }
+                    table[space] = fingerprint;
+                    return Ok(path.len() as u32);
+                }
+                queue.push_back((next, path));
+            }
+        }
+    }
+    Err(9)
+}
+
+/// A table and a model fed the same calls, with a second table whose holds are word for word.
+struct Pair {
+    settings: Settings,
+    table: Vec<u16>,
+    by_word: Vec<u16>,
+    model: Model,
+    accepted: usize,
+    released: usize,
+    full: usize,
+    longest: u32,
+}
+
+impl Pair {
+    fn new(settings: Settings) -> Self {
+        Pair {
+            settings,
+            table: cleared(settings),
+            by_word: cleared(settings),
+            model: Model::new(settings),
+            accepted: 0,
+            released: 0,
+            full: 0,
+            longest: 0,
+        }
+    }
+
+    fn hold(&mut self, tag: &[u8], scratch: &mut [u32]) {
+        let before = (self.table.clone(), scratch.to_vec());
+        let answer = hold(self.settings, &mut self.table, scratch, tag);
+        assert_eq!(answer.map(|_| ()), self.model.hold(tag, scratch.len()));
+        match answer {
+            Err(9) => assert_eq!(self.table, before.0),
+            Err(_) => assert_eq!(
+                (&self.table[..], &scratch[..]),
+                (&before.0[..], &before.1[..])
+            ),
+            Ok(_) => {}
+        }
+        if answer != Err(6) {
+            let expected = word_for_word(self.settings, &mut self.by_word, tag);
+            assert_eq!(answer, expected);
+        }
+        assert_eq!(self.table, self.by_word);
+        match answer {
+            Ok(moves) => {
+                self.accepted += 1;
+                self.longest = self.longest.max(moves);
+            }
+            Err(9) => self.full += 1,
+            Err(_) => {}
+        }
+    }
+
+    fn release(&mut self, tag: &[u8]) {
+        let before = self.table.clone();
+        let answer = release(self.settings, &mut self.table, tag);
+        assert_eq!(answer, self.model.release(tag));
+        if answer == Ok(true) {
+            self.released += 1;
+            assert_eq!(release(self.settings, &mut self.by_word, tag), Ok(true));
+        } else {
+            assert_eq!(self.table, before);
+        }
+    }
+
+    fn lookup(&self, tag: &[u8]) {
+        let answer = lookup(self.settings, &self.table, tag);
+        assert_eq!(answer, self.model.lookup(tag));
+    }
+
+    fn compare(&self) {
+        let filled = classes(self.settings, &self.table);
+        assert_eq!(filled, self.model.entries());
+        assert_eq!(filled.len(), self.accepted - self.released);
+    }
+}
+
+fn small_settings() -> Vec<Settings> {
+    let mut all = vec![];
+    for width in [4, 12, 16] {
+        for buckets in [1, 2, 4, 8, 16, 32] {
+            all.push(Settings::new(PLAIN, width, buckets, 0));
+            let mut masks = vec![0, 1, buckets / 2, buckets / 3, buckets - 1];
+            masks.retain(|&mask| mask < buckets);
+            masks.sort_unstable();
+            masks.dedup();
+            all.extend(
+                masks
+                    .iter()
+                    .map(|&m| Settings::new(MASKED, width, buckets, m)),
+            );
+        }
+        for buckets in [2, 4, 6, 8, 10, 14, 16, 22] {
+            all.push(Settings::new(RING, width, buckets, 0));
+        }
+    }
+    all
+}
+
+#[test]
+fn one_bucket_takes_four() {
+    let settings = Settings::new(PLAIN, 12, 1, 0);
+    let mut table = cleared(settings);
+    for _ in 0..4 {
+        assert_eq!(hold(settings, &mut table, &mut [0; 2], b"tag"), Ok(0));
+    }
+    assert_eq!(hold(settings, &mut table, &mut [0; 2], b"tag"), Err(9));
+}
+
+#[test]
+fn two_buckets_of_the_ring_take_eight() {
+    let settings = Settings::new(RING, 12, 2, 0);
+    let mut table = cleared(settings);
+    for _ in 0..8 {
+        assert_eq!(hold(settings, &mut table, &mut [0; 4], b"tag"), Ok(0));
+    }
+    assert_eq!(hold(settings, &mut table, &mut [0; 4], b"tag"), Err(9));
+}
+
+#[test]
+fn histories() {
+    let mut mix = Mix(3);
+    let (mut longest, mut full) = (0, 0);
+    for settings in small_settings() {
+        for round in 0..6 {
+            let mut pair = Pair::new(settings);
+            let cells = 4 * settings.buckets;
+            // Few kinds of tags make many repeats, and many fill the table evenly.
+            let kinds = u64::from([cells / 3 + 1, 2 * cells, 100_000][round as usize % 3]);
+            let words = 2 * settings.buckets as usize;
+            let mut scratch = dirty(round, words, &mut mix);
+            for step in 0..6 * cells {
+                let tag = tag(mix.below(kinds));
+                // Holds and releases prevail in turn, so that the load goes up and down.
+                let holds = if step / cells % 2 == 0 { 8 } else { 3 };
+                match mix.below(10) {
+                    n if n < holds => {
+                        if mix.below(3) == 0 {
+                            scratch = dirty(mix.below(6), words, &mut mix);
+                        }
+                        pair.hold(&tag, &mut scratch);
+                    }
+                    9 => pair.lookup(&tag),
+                    _ => pair.release(&tag),
+                }
+                if mix.below(20) == 0 {
+                    match mix.below(4) {
+                        0 => pair.hold(&[], &mut scratch),
+                        1 => pair.release(&[7; 65]),
+                        2 => pair.lookup(&[]),
+                        _ => pair.hold(&tag, &mut scratch[1..]),
+                    }
+                }
+                if mix.below(4) == 0 {
+                    pair.compare();
+                }
+            }
+            pair.compare();
+            longest = longest.max(pair.longest);
+            full += pair.full;
+        }
+    }
+    assert!(longest >= 5, "{longest}");
+    assert!(full >= 1_000, "{full}");
+}
+
+/// Cells that no hold wrote, with values of 2^w and above, on the path of a search.
+#[test]
+fn searches_over_any_cells() {
+    let mut mix = Mix(4);
+    let (mut longest, mut full) = (0, 0);
+    for settings in small_settings() {
+        for round in 0..60 {
+            let cells = 4 * settings.buckets as usize;
+            let mut table: Vec<u16> = (0..cells).map(|_| (mix.draw() as u16).max(1)).collect();
+            for _ in 0..mix.below(4) {
+                table[mix.below(cells as u64) as usize] = 0;
+            }
+            let mut by_word = table.clone();
+            let mut scratch = dirty(round % 6, cells / 2 + mix.below(3) as usize, &mut mix);
+            for _ in 0..4 {
+                let tag = tag(mix.draw() as u32);
+                let answer = hold(settings, &mut table, &mut scratch, &tag);
+                assert_eq!(answer, word_for_word(settings, &mut by_word, &tag));
+                assert_eq!(table, by_word);
+                match answer {
+                    Ok(moves) => longest = longest.max(moves),
+                    Err(number) => {
+                        assert_eq!(number, 9);
+                        full += 1;
+                    }
+                }
+            }
+        }
+    }
+    assert!(longest >= 5, "{longest}");
+    assert!(full >= 1_000, "{full}");
+}
+
+/// A large table to its first refusal and beyond, word for word.
+#[test]
+fn large_tables() {
+    for settings in [
+        Settings::new(PLAIN, 16, 1_024, 0),
+        Settings::new(RING, 12, 1_022, 0),
+        Settings::new(MASKED, 12, 1_024, 0x155),
+    ] {
+        let mut mix = Mix(5);
+        let mut table = cleared(settings);
+        let mut by_word = table.clone();
+        let mut scratch = dirty(5, 2 * settings.buckets as usize, &mut mix);
+        let mut full = 0;
+        while full < 20 {
+            let tag = mix.bytes(8);
+            let answer = hold(settings, &mut table, &mut scratch, &tag);
+            assert_eq!(answer, word_for_word(settings, &mut by_word, &tag));
+            full += u32::from(answer == Err(9));
+        }
+        assert_eq!(table, by_word);
+        let filled = table.iter().filter(|&&cell| cell != 0).count();
+        assert!(
+            filled * 100 > table.len() * 95,
+            "{filled} of {}",
+            table.len()
+        );
+    }
+}
+
+/// Each check before the next, with the later faults there too; and nothing is changed.
+#[test]
+fn refusals_in_order() {
+    let good = Settings::new(MASKED, 12, 8, 5);
+    let cases = [
+        (Settings::new(3, 17, 7, 9), 3, 1, 0, 99, 1),
+        (Settings::new(MASKED, 17, 7, 9), 3, 1, 0, 99, 2),
+        (Settings::new(MASKED, 12, 7, 9), 3, 1, 0, 99, 3),
+        (Settings::new(MASKED, 12, 8, 9), 3, 1, 0, 99, 4),
+        (good, 31, 1, 0, 99, 5),
+        (good, 33, 15, 65, 8, 5),
+        (good, 0, 15, 65, 8, 5),
+        (good, 32, 15, 0, 8, 6),
+        (good, 32, 0, 65, u32::MAX, 6),
+        (good, 32, 16, 0, 8, 7),
+        (good, 32, 99, 65, 8, 7),
+    ];
+    for (settings, cells, words, length, bucket, number) in cases {
+        let mut mix = Mix(6);
+        let before: Vec<u16> = (0..cells).map(|_| mix.draw() as u16).collect();
+        let dirt: Vec<u32> = (0..words).map(|_| mix.draw() as u32).collect();
+        let tag = vec![1; length];
+        let mut table = before.clone();
+        let mut scratch = dirt.clone();
+        assert_eq!(hold(settings, &mut table, &mut scratch, &tag), Err(number));
+        // Scratch does not concern the others, nor a tag the view.
+        let other = if number == 6 { 7 } else { number };
+        assert_eq!(release(settings, &mut table, &tag), Err(other));
+        assert_eq!(lookup(settings, &table, &tag), Err(other));
+        let seen = if number > 5 { 8 } else { number };
+        assert_eq!(view_check(settings, &table, bucket), seen);
+        assert!(view(settings, &table, bucket).is_empty());
+        if number <= 5 {
+            assert_eq!(clear(settings, &mut table), Err(number));
+        }
+        assert_eq!((table, scratch), (before, dirt));
+    }
+}
+
+#[test]
+fn views() {
+    for settings in small_settings() {
+        let table: Vec<u16> = (1..=4 * settings.buckets as u16).collect();
+        for b in 0..settings.buckets {
+            let part = view(settings, &table, b);
+            assert_eq!(part, &table[4 * b as usize..][..4]);
+            assert_eq!(part.as_ptr(), table[4 * b as usize..].as_ptr());
+            assert_eq!(view_check(settings, &table, b), 0);
+        }
+        for b in [settings.buckets, settings.buckets + 1, u32::MAX] {
+            assert!(view(settings, &table, b).is_empty());
+            assert_eq!(view_check(settings, &table, b), 8);
+        }
+    }
+}
