@@ -2,7 +2,9 @@
 //! compared with.
 
 pub mod fnv_strings;
+pub mod holdfile;
 pub mod index;
 pub mod model;
+pub mod packed;
 pub mod requests;
 pub mod table;

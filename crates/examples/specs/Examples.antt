@@ -4,21 +4,36 @@
 use mathlib.Core.Path.{_≡_}
 use mathlib.Core.List.{List, [], _∷_, _++_}
 use Prim.Native.Nat.{ℕ, zero, suc, _*_}
+use lib.ListN.{length}
+use Rattle.index.specs.Checks.{given}
 use Rattle.index.specs.Candidates.{othersBy}
 use Rattle.index.specs.declared.Settings.{Settings}
 use Rattle.table.specs.Calls.{Reply, refused, accepted, fresh}
 use Rattle.table.specs.Model.{Call, holdOf}
 use Rattle.table.specs.Demand.{run}
+use Rattle.holdfile.specs.Writer.{fileOf}
+use Rattle.holdfile.specs.Reader.{readFile}
+use Rattle.rows.specs.Rows.{quadruple, rowOf}
+use Rattle.packed.specs.Writer.{packedOf}
 
 pub data Example : Type 0 where
   -- with an offset given, a bucket has these candidates, in order
   leads : (s : Settings) (offset bucket : ℕ) (candidates : List ℕ) → Example
   -- a fresh table says this to a list of calls
   says : (s : Settings) (calls : List Call) (replies : List Reply) → Example
+  -- settings and cells make this hold file, and reading it gives them back
+  files : (s : Settings) (cells bytes : List ℕ) → Example
+  -- a quadruple of high nibbles has this row
+  row : (a b c d number : ℕ) → Example
+  -- settings and cells have this packed form
+  packs : (s : Settings) (cells bytes : List ℕ) → Example
 
 abbrev pub Holds : Example → Type 0
 Holds (leads s d b l) = b ∷ othersBy s d b ≡ l
 Holds (says s l r) = run s (fresh s) l .replies ≡ r
+Holds (files s c l) = (fileOf s c ≡ l) × ((t : List ℕ) → length t ≡ 4 * s .buckets → readFile l t ≡ record { answer = given s; cells = c })
+Holds (row a b c d r) = rowOf (quadruple a b c d) ≡ r
+Holds (packs s c l) = packedOf s c ≡ l
 
 abbrev pub AllHold : List Example → Type 0
 AllHold [] = Unit {0}
@@ -31,6 +46,10 @@ with r m k = record { rule = r; width = 12; buckets = m; mask = k }
 abbrev pub times : {A : Type 0} → ℕ → A → List A
 times zero a = []
 times (suc n) a = a ∷ times n a
+
+-- rule 0, w = 4, M = 1
+abbrev pub small : Settings
+small = record { rule = 0; width = 4; buckets = 1; mask = 0 }
 
 -- so many holds of one tag, with as much scratch as M buckets ask
 abbrev pub holds : ℕ → ℕ → List Call
@@ -46,4 +65,11 @@ examples =
     ∷ leads (with 2 16 12) 13 10 (10 ∷ 6 ∷ 11 ∷ 7 ∷ [])
     ∷ says (with 0 1 0) (holds 5 1) (times 4 (accepted 0) ++ (refused 9 ∷ []))
     ∷ says (with 1 2 0) (holds 9 2) (times 8 (accepted 0) ++ (refused 9 ∷ []))
+    ∷ files small (0 ∷ 9 ∷ 0 ∷ 3 ∷ []) (0x06 ∷ 0x04 ∷ 0x00 ∷ 0x00 ∷ 0x0A ∷ 0x09 ∷ 0x00 ∷ 0x03 ∷ 0x00 ∷ [])
+    ∷ row 0 0 0 15 15
+    ∷ row 0 0 1 1 16
+    ∷ row 0 1 1 1 136
+    ∷ row 1 1 1 1 816
+    ∷ row 15 15 15 15 3875
+    ∷ packs small (0 ∷ 9 ∷ 0 ∷ 3 ∷ []) (0x33 ∷ 0x00 ∷ [])
     ∷ []

@@ -6,3 +6,4 @@ pub mod Bools
 pub mod Powers
 pub mod Numbers
 pub mod Sums
+pub mod Bytes

@@ -58,8 +58,8 @@ pub enum HoldAnswer {
     Refused(u32),
 }
 
-// The number that refuses the settings or the table, 0 where both pass.
-fn table_refusal(s: Settings, table: &[u16]) -> u32
+// The number that refuses the settings or the table, 0 where both pass. Every form of a table checks by it.
+pub fn table_refusal(s: Settings, table: &[u16]) -> u32
     ensures { λ r. ⌜ r ≡ numberOf (clearRefusal s (now (table .entry))) ⌝ }
 {
     let n = s.refusal();

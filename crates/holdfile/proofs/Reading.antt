@@ -1,0 +1,364 @@
+-- The reader's steps: fields, cells, buckets, and the file as far as it has been read.
+-- Assumes nothing.
+use mathlib.Core.Path.{_≡_, refl, sym, ap, ap₂, _∙_, subst}
+use mathlib.Core.Logic.{_≢_}
+use mathlib.Core.Bool.{Bool, true, false, cond, not, _||_, _&&_}
+use mathlib.Core.Option.{Option}
+use mathlib.Core.List.{List, [], _∷_, _++_, append-assoc, append-nil}
+use Prim.Native.Nat.{ℕ, zero, suc, _+_, _*_, _-_, _%_, _^_, _≤_, _<_}
+use native.Mathlib.Nat.{one-mul}
+use native.Mathlib.Numerals.{add-one}
+use native.Mathlib.Omega.{arith}
+use borrow.Author.Tests.{eq-eqb, ne-eqb}
+use lib.Dec.{eqb, leb}
+use lib.ListN.{length, take, drop, getD, set, drop-of-length-le}
+use lib.Pow.{shl-exact}
+use lib.Seq.{drop-cons, take-add, drop-at, take-at, take-all, length-take-le}
+use Rattle.index.specs.Checks.{numberOf, refused, given}
+use Rattle.index.specs.declared.Settings.{Settings}
+use Rattle.table.specs.Calls.{clearRefusal}
+use Rattle.holdfile.specs.declared.Field.{Field}
+use Rattle.holdfile.specs.Parts.{fieldIs, endOf, Passed, cellsOf, Stored, afterBuckets, afterHeader, toldRead}
+use Rattle.holdfile.proofs.Refusals.{clear-passes, clear-number}
+use Rattle.holdfile.specs.Bytes.{bit0, bit1, bit2, bit3}
+use Rattle.holdfile.specs.Reader.{Parsed, stop, next, andThen, takeByte, takePair, field, refuseIf, misfit, settingsOf, readFields, readHeader, readCell, readCells, readBucket, readBuckets, ReadOut, leftOver, checked, readAll, readOut, readFile}
+
+-- ── fields ──
+module _ (l : List ℕ) (at : ℕ) where
+  pub take-byte : at < length l → takeByte (drop at l) ≡ next (getD l at 0) (drop (at + 1) l)
+  take-byte h = rw (add-one, drop-cons l at 0) refl
+
+  pub no-byte : length l ≤ at → takeByte (drop at l) ≡ stop 11
+  no-byte h = ap takeByte (drop-of-length-le l h)
+
+  pub take-two : at + 1 < length l → takePair (drop at l) ≡ next (getD l at 0 + 256 * getD l (at + 1) 0) (drop (at + 1 + 1) l)
+  take-two h =
+      let h0 : at < length l = omega arith in
+      let h1 : suc at < length l = omega arith in
+      rw (add-one (at + 1), add-one at) (ap takePair (drop-cons l at 0 h0 ∙ ap (λ (r : List ℕ). getD l at 0 ∷ r) (drop-cons l (suc at) 0 h1)))
+
+  pub no-two : length l ≤ at + 1 → takePair (drop at l) ≡ stop 11
+  no-two h = go (drop at l) (omega (arith, lib.ListN.length-drop at l))
+    where
+      go : (r : List ℕ) → length r ≤ 1 → takePair r ≡ stop 11
+      go [] k = refl
+      go (x ∷ []) k = refl
+      go (x ∷ y ∷ r) k = absurd (omega arith)
+
+pub field-stands : (t : Bool) (d : ℕ) (read : List ℕ → Parsed ℕ) (l : List ℕ) → t ≡ true → field t d read l ≡ read l
+field-stands true d read l e = refl
+field-stands false d read l e = absurd (let z : _≡_ {A = ℕ} 0 1 = cc in omega arith)
+
+pub field-absent : (t : Bool) (d : ℕ) (read : List ℕ → Parsed ℕ) (l : List ℕ) → t ≡ false → field t d read l ≡ next d l
+field-absent true d read l e = absurd (let z : _≡_ {A = ℕ} 0 1 = cc in omega arith)
+field-absent false d read l e = refl
+
+-- a whole that has come to a field: it goes on behind the field, or stops there
+pub record AtField {B : Type 0} (whole : Parsed B) (p : Parsed ℕ) (then : ℕ → List ℕ → Parsed B) : Type 0 where
+  pub is : whole ≡ andThen p then
+
+module _ {B : Type 0} {whole : Parsed B} {p : Parsed ℕ} {then : ℕ → List ℕ → Parsed B} (l : List ℕ) (f : Field) where
+  pub field-taken : AtField whole p then → fieldIs l f ≡ p → {v at : ℕ} → f ≡ Field.Value v at → whole ≡ then v (drop at l)
+  field-taken e q t = e .is ∙ ap (λ (x : Parsed ℕ). andThen x then) (sym q ∙ ap (fieldIs l) t)
+
+  pub field-ends : AtField whole p then → fieldIs l f ≡ p → f ≡ Field.Short → stop 11 ≡ whole
+  field-ends e q t = sym (e .is ∙ ap (λ (x : Parsed ℕ). andThen x then) (sym q ∙ ap (fieldIs l) t))
+
+-- and to a test
+pub record AtTest {B : Type 0} (whole : Parsed B) (t : Bool) (n : ℕ) (then : Parsed B) : Type 0 where
+  pub is : whole ≡ refuseIf t n then
+
+module _ {B : Type 0} {whole then : Parsed B} {t : Bool} {n : ℕ} where
+  pub test-met : AtTest whole t n then → t ≡ true → stop n ≡ whole
+  test-met e h = sym (e .is ∙ ap (λ (x : Bool). refuseIf x n then) h)
+
+  pub test-passed : AtTest whole t n then → t ≡ false → whole ≡ then
+  test-passed e h = e .is ∙ ap (λ (x : Bool). refuseIf x n then) h
+
+-- ── a cell's test ──
+pub shifted : (w : ℕ) → w ≤ 16 → 1 * 2 ^ w % 2 ^ 32 ≡ 2 ^ w
+shifted w h = shl-exact {a = 1} 1 w 32 (omega arith) (omega arith) ∙ one-mul (2 ^ w)
+
+and-false : (a b : Bool) → a ≡ false → false ≡ (a && b)
+and-false true b e = absurd (let z : _≡_ {A = ℕ} 0 1 = cc in omega arith)
+and-false false b e = refl
+
+pub and-right : (a b : Bool) → a ≡ true → b ≡ (a && b)
+and-right true b e = refl
+and-right false b e = absurd (let z : _≡_ {A = ℕ} 0 1 = cc in omega arith)
+
+pub fit-unmarked : (t : Bool) (v w : ℕ) → t ≡ false → false ≡ (t && (eqb v 0 || leb (2 ^ w) v))
+fit-unmarked t v w e = and-false t (eqb v 0 || leb (2 ^ w) v) e
+
+pub unfit-zero : (t : Bool) (v w : ℕ) → t ≡ true → v ≡ 0 → true ≡ (t && (eqb v 0 || leb (2 ^ w) v))
+unfit-zero t v w e z = ap (λ (b : Bool). b || leb (2 ^ w) v) (sym (eq-eqb v 0 z)) ∙ and-right t (eqb v 0 || leb (2 ^ w) v) e
+
+pub unfit-wide : (t : Bool) (v w : ℕ) → t ≡ true → v ≢ 0 → leb (2 ^ w) v ≡ (t && (eqb v 0 || leb (2 ^ w) v))
+unfit-wide t v w e z = ap (λ (b : Bool). b || leb (2 ^ w) v) (sym (ne-eqb v 0 z)) ∙ and-right t (eqb v 0 || leb (2 ^ w) v) e
+
+-- ── the other causes of 12 ──
+module _ (a b c d e : Bool) where
+  pub misfit-0 : a ≡ true → true ≡ (a || b || c || cond d (not e) e)
+  misfit-0 h = rw h refl
+
+  pub misfit-1 : a ≡ false → b ≡ true → true ≡ (a || b || c || cond d (not e) e)
+  misfit-1 h k = rw (h, k) refl
+
+  pub misfit-2 : a ≡ false → b ≡ false → c ≡ true → true ≡ (a || b || c || cond d (not e) e)
+  misfit-2 h k m = rw (h, k, m) refl
+
+  pub misfit-3 : a ≡ false → b ≡ false → c ≡ false → d ≡ true → not e ≡ (a || b || c || cond d (not e) e)
+  misfit-3 h k m n = rw (h, k, m, n) refl
+
+  pub misfit-4 : a ≡ false → b ≡ false → c ≡ false → d ≡ false → e ≡ (a || b || c || cond d (not e) e)
+  misfit-4 h k m n = rw (h, k, m, n) refl
+
+-- ── the cells of a bucket ──
+pub four-set : (l : List ℕ) (a b c d : ℕ) → length l ≡ 4 → set (set (set (set l 0 a) 1 b) 2 c) 3 d ≡ a ∷ b ∷ c ∷ d ∷ []
+four-set (x ∷ y ∷ z ∷ w ∷ []) a b c d e = refl
+four-set [] a b c d e = absurd (omega arith)
+four-set (x ∷ []) a b c d e = absurd (omega arith)
+four-set (x ∷ y ∷ []) a b c d e = absurd (omega arith)
+four-set (x ∷ y ∷ z ∷ []) a b c d e = absurd (omega arith)
+four-set (x ∷ y ∷ z ∷ w ∷ v ∷ l) a b c d e = absurd (omega arith)
+
+-- ── a bucket, one cell after the other ──
+abbrev pub unfitOf : ℕ → Bool → ℕ → Bool
+unfitOf w t v = t && (eqb v 0 || leb (2 ^ w) v)
+
+cell-by-field : (w : ℕ) (t : Bool) (l : List ℕ) → readCell w t l ≡ andThen (field t 0 takePair l) (λ v rest. refuseIf (unfitOf w t v) 14 (next v rest))
+cell-by-field w true l = refl
+cell-by-field w false l = refl
+
+-- a whole that has come to a cell: its bytes end early, it does not fit, or it is read
+pub record AtCell {B : Type 0} (whole : Parsed B) (w : ℕ) (t : Bool) (bytes : List ℕ) (then : ℕ → List ℕ → Parsed B) : Type 0 where
+  pub is : whole ≡ andThen (readCell w t bytes) then
+
+by-field : {B : Type 0} {whole : Parsed B} {w : ℕ} {t : Bool} {bytes : List ℕ} {then : ℕ → List ℕ → Parsed B} → AtCell whole w t bytes then
+    → AtField whole (field t 0 takePair bytes) (λ v rest. andThen (refuseIf (unfitOf w t v) 14 (next v rest)) then)
+by-field {B} {whole} {w} {t} {bytes} {then} e = record { is = e .is ∙ ap (λ (p : Parsed ℕ). andThen p then) (cell-by-field w t bytes) ∙ regroup (field t 0 takePair bytes) }
+  where
+    regroup : (p : Parsed ℕ) → andThen (andThen p (λ v rest. refuseIf (unfitOf w t v) 14 (next v rest))) then ≡ andThen p (λ v rest. andThen (refuseIf (unfitOf w t v) 14 (next v rest)) then)
+    regroup (stop n) = refl
+    regroup (next v rest) = refl
+
+module _ {B : Type 0} {whole : Parsed B} {w : ℕ} {t : Bool} {bytes : List ℕ} {then : ℕ → List ℕ → Parsed B} (l : List ℕ) (f : Field) where
+  pub cell-ends : AtCell whole w t bytes then → fieldIs l f ≡ field t 0 takePair bytes → f ≡ Field.Short → stop 11 ≡ whole
+  cell-ends e q s = field-ends l f (by-field e) q s
+
+  pub cell-unfit : AtCell whole w t bytes then → fieldIs l f ≡ field t 0 takePair bytes → {v at : ℕ} {u : Bool} → f ≡ Field.Value v at → u ≡ unfitOf w t v → u ≡ true → stop 14 ≡ whole
+  cell-unfit e q {v} {at} s k h = sym (field-taken l f (by-field e) q s ∙ ap (λ (b : Bool). andThen (refuseIf b 14 (next v (drop at l))) then) (sym k ∙ h))
+
+  pub cell-taken : AtCell whole w t bytes then → fieldIs l f ≡ field t 0 takePair bytes → {v at : ℕ} {u : Bool} → f ≡ Field.Value v at → u ≡ unfitOf w t v → u ≡ false → whole ≡ then v (drop at l)
+  cell-taken e q {v} {at} s k h = field-taken l f (by-field e) q s ∙ ap (λ (b : Bool). andThen (refuseIf b 14 (next v (drop at l))) then) (sym k ∙ h)
+
+-- what is left of a bucket: the test of its byte, and what stands behind each cell
+abbrev pub behind3 : ℕ → ℕ → ℕ → ℕ → List ℕ → Parsed (List ℕ)
+behind3 a b c d rest = next (a ∷ b ∷ c ∷ d ∷ []) rest
+
+abbrev pub behind2 : ℕ → ℕ → ℕ → ℕ → ℕ → List ℕ → Parsed (List ℕ)
+behind2 w m a b c rest = andThen (readCell w (bit3 m) rest) (behind3 a b c)
+
+abbrev pub behind1 : ℕ → ℕ → ℕ → ℕ → List ℕ → Parsed (List ℕ)
+behind1 w m a b rest = andThen (readCell w (bit2 m) rest) (behind2 w m a b)
+
+abbrev pub behind0 : ℕ → ℕ → ℕ → List ℕ → Parsed (List ℕ)
+behind0 w m a rest = andThen (readCell w (bit1 m) rest) (behind1 w m a)
+
+abbrev pub allCells : ℕ → ℕ → List ℕ → Parsed (List ℕ)
+allCells w m rest = andThen (readCell w (bit0 m) rest) (behind0 w m)
+
+abbrev pub behindMarks : ℕ → ℕ → List ℕ → Parsed (List ℕ)
+behindMarks w m rest = refuseIf (leb 16 m) 13 (allCells w m rest)
+
+pub bucket-opened : (w : ℕ) (l : List ℕ) → readBucket w l ≡ andThen (takeByte l) (behindMarks w)
+unfolding readBucket readCells
+bucket-opened w l = refl
+
+-- ── buckets ──
+-- cells in front of what a reading gives
+abbrev pub joined : List ℕ → Parsed (List ℕ) → Parsed (List ℕ)
+joined front p = andThen p (λ cells end. next (front ++ cells) end)
+
+pub joined-nil : (p : Parsed (List ℕ)) → joined [] p ≡ p
+joined-nil (stop n) = refl
+joined-nil (next c end) = refl
+
+joined-append : (f g : List ℕ) (p : Parsed (List ℕ)) → joined (f ++ g) p ≡ joined f (joined g p)
+joined-append f g (stop n) = refl
+joined-append f g (next c end) = ap (λ (x : List ℕ). next x end) (append-assoc f g c)
+
+end-joined : (f : List ℕ) (p : Parsed (List ℕ)) → endOf (joined f p) ≡ endOf p
+end-joined f (stop n) = refl
+end-joined f (next c end) = refl
+
+module _ (w n : ℕ) (l : List ℕ) (h : 0 < n) where
+  one-more : readBuckets w n l ≡ andThen (readBucket w l) (λ four rest. joined four (readBuckets w (n - 1) rest))
+  one-more = go n h
+    where
+      opened : (m : ℕ) → readBuckets w (suc m) l ≡ andThen (readBucket w l) (λ four rest. joined four (readBuckets w m rest))
+      opened m = unfold readBuckets in refl
+
+      go : (k : ℕ) → 0 < k → readBuckets w k l ≡ andThen (readBucket w l) (λ four rest. joined four (readBuckets w (k - 1) rest))
+      go zero z = absurd (omega arith)
+      go (suc m) z =
+          let e : suc m - 1 ≡ m = omega arith in
+          rw e (opened m)
+
+  pub bucket-then : (four rest : List ℕ) → readBucket w l ≡ next four rest → readBuckets w n l ≡ joined four (readBuckets w (n - 1) rest)
+  bucket-then four rest e = one-more ∙ ap (λ (p : Parsed (List ℕ)). andThen p (λ four rest. joined four (readBuckets w (n - 1) rest))) e
+
+  pub bucket-stops : (k : ℕ) → readBucket w l ≡ stop k → readBuckets w n l ≡ stop k
+  bucket-stops k e = one-more ∙ ap (λ (p : Parsed (List ℕ)). andThen p (λ four rest. joined four (readBuckets w (n - 1) rest))) e
+
+  -- the first pass: one bucket more
+  pub check-turn : (four rest : List ℕ) → readBucket w l ≡ next four rest → endOf (readBuckets w (n - 1) rest) ≡ endOf (readBuckets w n l)
+  check-turn four rest e = sym (ap endOf (bucket-then four rest e) ∙ end-joined four (readBuckets w (n - 1) rest))
+
+  -- the second pass meets no refusal
+  pub passes-first : (front : List ℕ) → Passed (joined front (readBuckets w n l)) → Passed (readBucket w l)
+  passes-first front p = go (readBucket w l) refl
+    where
+      go : (r : Parsed (List ℕ)) → readBucket w l ≡ r → Passed r
+      go (stop k) e = subst (λ (x : Parsed (List ℕ)). Passed (joined front x)) (bucket-stops k e) p
+      go (next four rest) e = tt
+
+  -- and has one bucket more in the table
+  pub store-turn : (at i end : ℕ) (bytes before after : List ℕ) → l ≡ drop at bytes → Stored w bytes before after at i end
+      → joined (take (i + 4) after) (readBuckets w (n - 1) (drop end bytes)) ≡ joined (take i before) (readBuckets w n l)
+  store-turn at i end bytes before after e k =
+      ap (λ (x : List ℕ). joined x (readBuckets w (n - 1) (drop end bytes))) (take-add i 4 after)
+      ∙ joined-append (take i after) (take 4 (drop i after)) (readBuckets w (n - 1) (drop end bytes))
+      ∙ ap₂ joined (k .front) (sym (bucket-then (take 4 (drop i after)) (drop end bytes) (ap (readBucket w) e ∙ k .bucket)))
+
+pub none-more : (w : ℕ) (l : List ℕ) → readBuckets w 0 l ≡ next [] l
+unfolding readBuckets
+none-more w l = refl
+
+pub store-end : (w left i : ℕ) (l table : List ℕ) (all : Parsed (List ℕ)) → left ≤ 0 → joined (take i table) (readBuckets w left l) ≡ all → i + 4 * left ≡ length table → table ≡ cellsOf all
+store-end w left i l table all h e k =
+    let z : left ≡ 0 = omega arith in
+    sym (ap cellsOf (sym e ∙ ap (joined (take i table)) (ap (λ (n : ℕ). readBuckets w n l) z ∙ none-more w l)) ∙ append-nil (take i table) ∙ take-all i table (omega arith))
+
+-- four cells put into the middle of the table
+pub stored : (w : ℕ) (l t : List ℕ) (at i end a b c d : ℕ) → i + 4 ≤ length t → readBucket w (drop at l) ≡ next (a ∷ b ∷ c ∷ d ∷ []) (drop end l)
+    → (part rest : List ℕ) → part ≡ a ∷ b ∷ c ∷ d ∷ [] → Stored w l t (take i t ++ (part ++ rest)) at i end
+stored w l t at i end a b c d h e part rest p = record {
+  bucket = e ∙ ap (λ (x : List ℕ). next x (drop end l)) (sym (ap (take 4) (drop-at (take i t) (part ++ rest) i (length-take-le i t (omega arith)) ∙ ap (λ (x : List ℕ). x ++ rest) p)));
+  front = take-at (take i t) (part ++ rest) i (length-take-le i t (omega arith));
+}
+
+pub never-stops : (p : Parsed (List ℕ)) (n : ℕ) → Passed p → stop n ≡ p → ⊥
+never-stops (stop m) n h e = h
+never-stops (next c end) n h e = let z : _≡_ {A = ℕ} 0 1 = cc in omega arith
+
+-- ── what stands behind the header ──
+pub passed-of : (p : Parsed (List ℕ)) (rest : List ℕ) → next tt rest ≡ endOf p → Passed p
+passed-of (stop n) rest e = absurd (let z : _≡_ {A = ℕ} 0 1 = cc in omega arith)
+passed-of (next c end) rest e = tt
+
+some-left : (l : List ℕ) (at : ℕ) → at < length l → leftOver (drop at l) ≡ true
+some-left l at h = ap leftOver (drop-cons l at 0 h)
+
+none-left : (l : List ℕ) (at : ℕ) → length l ≤ at → leftOver (drop at l) ≡ false
+none-left l at h = ap leftOver (drop-of-length-le l h)
+
+module _ (s : Settings) (t : List ℕ) where
+  -- the buckets are read, and what is found there gives the answer
+  found-stop : (p : Parsed (List ℕ)) (n : ℕ) → stop n ≡ endOf p → toldRead (refused n) t ≡ readOut t (andThen p (afterBuckets s))
+  found-stop (stop m) n e = ap (λ (x : ℕ). toldRead (refused x) t) (let q : n ≡ m = cc in q)
+  found-stop (next c end) n e = absurd (let z : _≡_ {A = ℕ} 0 1 = cc in omega arith)
+
+  found-end : (p : Parsed (List ℕ)) (rest : List ℕ) → next tt rest ≡ endOf p → andThen p (afterBuckets s) ≡ afterBuckets s (cellsOf p) rest
+  found-end (stop m) rest e = absurd (let z : _≡_ {A = ℕ} 0 1 = cc in omega arith)
+  found-end (next c end) rest e = ap (afterBuckets s c) (let q : end ≡ rest = cc in q)
+
+  module _ (rest : List ℕ) where
+    pub body-refused : (n : ℕ) → n ≡ numberOf (clearRefusal s t) → n ≢ 0 → toldRead (refused n) t ≡ readOut t (afterHeader t s rest)
+    unfolding afterHeader
+    body-refused n e h =
+        sym (ap (λ (o : Option ℕ). readOut t (checked o (andThen (readBuckets (s .width) (s .buckets) rest) (afterBuckets s)))) (clear-number s t n e h))
+
+    module _ (z : numberOf (clearRefusal s t) ≡ 0) where
+      passing : andThen (readBuckets (s .width) (s .buckets) rest) (afterBuckets s) ≡ afterHeader t s rest
+      unfolding afterHeader
+      passing = sym (ap (λ (o : Option ℕ). checked o (andThen (readBuckets (s .width) (s .buckets) rest) (afterBuckets s))) (clear-passes s t z))
+
+      pub body-stops : (n : ℕ) → stop n ≡ endOf (readBuckets (s .width) (s .buckets) rest) → toldRead (refused n) t ≡ readOut t (afterHeader t s rest)
+      body-stops n e = found-stop (readBuckets (s .width) (s .buckets) rest) n e ∙ ap (readOut t) passing
+
+      module _ (l : List ℕ) (end : ℕ) (e : next tt (drop end l) ≡ endOf (readBuckets (s .width) (s .buckets) rest)) where
+        ended : afterBuckets s (cellsOf (readBuckets (s .width) (s .buckets) rest)) (drop end l) ≡ afterHeader t s rest
+        ended = sym (found-end (readBuckets (s .width) (s .buckets) rest) (drop end l) e) ∙ passing
+
+        pub body-left : end < length l → toldRead (refused 15) t ≡ readOut t (afterHeader t s rest)
+        unfolding afterBuckets
+        body-left h =
+            sym (ap (λ (b : Bool). readOut t (refuseIf b 15 (next (toldRead (given s) (cellsOf (readBuckets (s .width) (s .buckets) rest))) (drop end l)))) (some-left l end h))
+            ∙ ap (readOut t) ended
+
+        pub body-given : length l ≤ end → (c : List ℕ) → c ≡ cellsOf (readBuckets (s .width) (s .buckets) rest) → toldRead (given s) c ≡ readOut t (afterHeader t s rest)
+        unfolding afterBuckets
+        body-given h c q =
+            ap (toldRead (given s)) q
+            ∙ sym (ap (λ (b : Bool). readOut t (refuseIf b 15 (next (toldRead (given s) (cellsOf (readBuckets (s .width) (s .buckets) rest))) (drop end l)))) (none-left l end h))
+            ∙ ap (readOut t) ended
+
+-- ── the header, one field after the other, and what stands behind it ──
+assoc : {A B C : Type 0} (p : Parsed A) (f : A → List ℕ → Parsed B) (g : B → List ℕ → Parsed C) → andThen (andThen p f) g ≡ andThen p (λ a rest. andThen (f a rest) g)
+assoc (stop n) f g = refl
+assoc (next a rest) f g = refl
+
+same-then : {A B : Type 0} (p : Parsed A) (f g : A → List ℕ → Parsed B) → ((a : A) (rest : List ℕ) → f a rest ≡ g a rest) → andThen p f ≡ andThen p g
+same-then (stop n) f g h = refl
+same-then (next a rest) f g h = h a rest
+
+refuse-then : {A B : Type 0} (t : Bool) (n : ℕ) (p : Parsed A) (f : A → List ℕ → Parsed B) → andThen (refuseIf t n p) f ≡ refuseIf t n (andThen p f)
+refuse-then true n p f = refl
+refuse-then false n p f = refl
+
+module _ (t : List ℕ) (m : ℕ) where
+  abbrev pub afterMask : ℕ → ℕ → ℕ → ℕ → List ℕ → Parsed ReadOut
+  afterMask rule width less mask rest = refuseIf (misfit m (settingsOf rule width less mask)) 12 (afterHeader t (settingsOf rule width less mask) rest)
+
+  abbrev pub afterLess : ℕ → ℕ → ℕ → List ℕ → Parsed ReadOut
+  afterLess rule width less rest = andThen (field (bit3 m) 0 takePair rest) (afterMask rule width less)
+
+  abbrev pub afterWidth : ℕ → ℕ → List ℕ → Parsed ReadOut
+  afterWidth rule width rest = andThen (field (bit2 m) 4095 takePair rest) (afterLess rule width)
+
+  abbrev pub afterRule : ℕ → List ℕ → Parsed ReadOut
+  afterRule rule rest = andThen (field (bit1 m) 12 takeByte rest) (afterWidth rule)
+
+  abbrev pub allFields : List ℕ → Parsed ReadOut
+  allFields rest = andThen (field (bit0 m) 0 takeByte rest) afterRule
+
+  fields-then : (rest : List ℕ) → andThen (readFields m rest) (afterHeader t) ≡ allFields rest
+  unfolding readFields
+  fields-then rest =
+      assoc (field (bit0 m) 0 takeByte rest) _ (afterHeader t) ∙ same-then (field (bit0 m) 0 takeByte rest) _ afterRule (λ rule r1.
+      assoc (field (bit1 m) 12 takeByte r1) _ (afterHeader t) ∙ same-then (field (bit1 m) 12 takeByte r1) _ (afterWidth rule) (λ width r2.
+      assoc (field (bit2 m) 4095 takePair r2) _ (afterHeader t) ∙ same-then (field (bit2 m) 4095 takePair r2) _ (afterLess rule width) (λ less r3.
+      assoc (field (bit3 m) 0 takePair r3) _ (afterHeader t) ∙ same-then (field (bit3 m) 0 takePair r3) _ (afterMask rule width less) (λ mask r4.
+      refuse-then (misfit m (settingsOf rule width less mask)) 12 (next (settingsOf rule width less mask) r4) (afterHeader t)))))
+
+  abbrev pub afterMap : List ℕ → Parsed ReadOut
+  afterMap rest = refuseIf (leb 16 m) 12 (allFields rest)
+
+pub file-opened : (l t : List ℕ) → readAll l t ≡ andThen (takeByte l) (afterMap t)
+unfolding readAll readHeader afterHeader afterBuckets
+file-opened l t =
+    assoc (takeByte l) (λ map rest. refuseIf (leb 16 map) 12 (readFields map rest)) (afterHeader t)
+    ∙ same-then (takeByte l) (λ map rest. andThen (refuseIf (leb 16 map) 12 (readFields map rest)) (afterHeader t)) (afterMap t)
+    (λ map rest. refuse-then (leb 16 map) 12 (readFields map rest) (afterHeader t) ∙ ap (refuseIf (leb 16 map) 12) (fields-then t map rest))
+
+pub settings-same : {a b c d e f g h : ℕ} → a ≡ e → b ≡ f → c ≡ g → d ≡ h → settingsOf a b c d ≡ settingsOf e f g h
+settings-same p q r s = rw (p, q, r, s) refl
+
+pub file-refused : (l t : List ℕ) (n : ℕ) → stop n ≡ readAll l t → toldRead (refused n) t ≡ readFile l t
+unfolding readFile
+file-refused l t n e = ap (readOut t) e
+
+pub file-body : (l t rest : List ℕ) {a b : Settings} {r : ReadOut} → readAll l t ≡ afterHeader t b rest → a ≡ b → r ≡ readOut t (afterHeader t a rest) → r ≡ readFile l t
+unfolding readFile
+file-body l t rest e s q = q ∙ ap (λ (x : Settings). readOut t (afterHeader t x rest)) s ∙ sym (ap (readOut t) e)

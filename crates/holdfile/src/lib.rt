@@ -1,0 +1,489 @@
+// The hold file: a table written as bytes, and read back. Numbers of two bytes have the low byte first.
+ghost use mathlib.Core.Path.{_≡_};
+ghost use mathlib.Core.Bool.{cond, _&&_, _||_};
+ghost use mathlib.Core.Option.{none};
+ghost use mathlib.Core.List.{[], _∷_};
+ghost use Prim.Native.Nat.{_+_, _*_, _%_, _^_, _<_, _≤_};
+ghost use lib.Dec.{eqb, leb};
+ghost use lib.ListN.{length, drop};
+ghost use lib.Seq.{sets};
+ghost use Rattle.index.specs.Checks.{numberOf};
+ghost use Rattle.index.specs.Settings.{settingsRefusal};
+ghost use Rattle.table.specs.Calls.{clearRefusal};
+ghost use Rattle.holdfile.specs.Bytes.{pair, nibble as nibbleOf, one as oneOf, where?};
+ghost use Rattle.holdfile.specs.Writer.{header, body, writeFile};
+ghost use Rattle.holdfile.specs.Reader.{takeByte, takePair, field, misfit as misfitOf, readBucket, readBuckets, readOut, readFile};
+ghost use Rattle.holdfile.specs.Answers.{writeIs, readIs};
+ghost use Rattle.holdfile.specs.Parts.{fieldIs, bucketIs, passIs, endOf, Passed, cellsOf, Stored, afterHeader, Put, sizeIs, bodySize, bucketFrom};
+use index::Settings;
+
+// The byte count, or the number of the refusal.
+pub enum WriteAnswer {
+    Written(usize),
+    Refused(u32),
+}
+
+// The file's settings, or the number of the refusal.
+pub enum ReadAnswer {
+    Read(Settings),
+    Refused(u32),
+}
+
+// The byte count of the buckets.
+enum Size {
+    Bytes(usize),
+    TooWide,
+}
+
+// A field's value and the place after it.
+enum Field {
+    Value(u16, usize),
+    Short,
+}
+
+// A bucket's cells and the place after it.
+enum Bucket {
+    Cells(u16, u16, u16, u16, usize),
+    Refused(u32),
+}
+
+// The place after the buckets.
+enum Pass {
+    End(usize),
+    Refused(u32),
+}
+
+// What a field that is left out stands for, as the file has it.
+const RULE: u16 = Settings::RULE as u16;
+
+const WIDTH: u16 = Settings::WIDTH as u16;
+
+const LESS: u16 = (Settings::BUCKETS - 1) as u16;
+
+const MASK: u16 = Settings::MASK as u16;
+
+fn wide(x: u16) -> u32
+    ensures { λ r. ⌜ r ≡ x ⌝ }
+{
+    x as u32
+}
+
+// ── the writer ──
+
+fn one(b: bool) -> u8
+    ensures { λ r. ⌜ (r ≡ oneOf b) × (r ≤ 1) ⌝ }
+{
+    if b { 1 } else { 0 }
+}
+
+// Four bits as a number.
+fn nibble(a: bool, b: bool, c: bool, d: bool) -> u8
+    ensures { λ r. ⌜ r ≡ nibbleOf a b c d ⌝ }
+{
+    one(a) + 2 * one(b) + 4 * one(c) + 8 * one(d)
+}
+
+// The size of a part that may be left out.
+fn part_size(stands: bool, n: usize) -> usize
+    ensures { λ r. ⌜ (r ≡ cond stands n 0) × (r ≤ n) ⌝ }
+{
+    if stands { n } else { 0 }
+}
+
+fn header_size(s: Settings) -> usize
+    ensures { λ r. ⌜ r ≡ length (header s) ⌝ }
+{
+    let rule = s.rule;
+    let width = s.width;
+    let buckets = s.buckets;
+    1
+        + part_size(rule != Settings::RULE, 1)
+        + part_size(width != Settings::WIDTH, 1)
+        + part_size(buckets != Settings::BUCKETS, 2)
+        + part_size(rule == 2, 2)
+}
+
+// The first pass over the cells: are they below 2^w, and how many bytes do the buckets take?
+fn body_size(table: &[u16], width: u32, buckets: usize) -> Size
+    requires { ⌜ (width ≤ 16) × (length (now table) ≡ 4 * buckets) ⌝ }
+    ensures { λ r. ⌜ sizeIs r ≡ bodySize width (now (table .entry)) ⌝ }
+{
+    let limit = 1u32 << width;
+    let mut n = buckets;
+    let mut i = 0;
+    while i < table.len() {
+        let v = table[i];
+        if wide(v) >= limit {
+            return Size::TooWide;
+        }
+        n += part_size(v != 0, 2);
+        i += 1;
+    }
+    Size::Bytes(n)
+}
+
+// The place after the byte.
+fn put_byte(out: &mut [u8], at: usize, v: u8) -> usize
+    requires { ⌜ at < length (now out) ⌝ }
+    ensures { λ r. ⌜ Put (now (out .entry)) (now (out .exit)) at (v ∷ []) r ⌝ }
+{
+    out[at] = v;
+    at + 1
+}
+
+fn put_byte_field(out: &mut [u8], at: usize, stands: bool, v: u8) -> usize
+    requires { ⌜ at + length (where? stands (v ∷ [])) ≤ length (now out) ⌝ }
+    ensures { λ r. ⌜ Put (now (out .entry)) (now (out .exit)) at (where? stands (v ∷ [])) r ⌝ }
+{
+    if stands {
+        return put_byte(out, at, v);
+    }
+    at
+}
+
+fn put_pair_field(out: &mut [u8], at: usize, stands: bool, x: u16) -> usize
+    requires { ⌜ at + length (where? stands (pair x)) ≤ length (now out) ⌝ }
+    ensures { λ r. ⌜ Put (now (out .entry)) (now (out .exit)) at (where? stands (pair x)) r ⌝ }
+{
+    if stands {
+        let low = (x % 256) as u8;
+        let high = (x / 256) as u8;
+        let next = put_byte(out, at, low);
+        return put_byte(out, next, high);
+    }
+    at
+}
+
+fn put_header(out: &mut [u8], s: Settings) -> usize
+    requires { ⌜ (settingsRefusal s ≡ none) × (length (header s) ≤ length (now out)) ⌝ }
+    ensures { λ r. ⌜ Put (now (out .entry)) (now (out .exit)) 0 (header s) r ⌝ }
+{
+    let rule = s.rule;
+    let width = s.width;
+    let buckets = s.buckets;
+    let mask = s.mask;
+    let has_rule = rule != Settings::RULE;
+    let has_width = width != Settings::WIDTH;
+    let has_buckets = buckets != Settings::BUCKETS;
+    let has_mask = rule == 2;
+    let low_rule = rule as u8;
+    let low_width = width as u8;
+    let less = (buckets - 1) as u16;
+    let low_mask = (mask % 65536) as u16;
+    let map = nibble(has_rule, has_width, has_buckets, has_mask);
+    let at = put_byte(out, 0, map);
+    let at = put_byte_field(out, at, has_rule, low_rule);
+    let at = put_byte_field(out, at, has_width, low_width);
+    let at = put_pair_field(out, at, has_buckets, less);
+    put_pair_field(out, at, has_mask, low_mask)
+}
+
+// The bucket of the four cells from i on.
+fn put_bucket(out: &mut [u8], at: usize, table: &[u16], i: usize) -> usize
+    requires { ⌜ (i + 4 ≤ length (now table)) × (at + length (bucketFrom (now table) i) ≤ length (now out)) ⌝ }
+    ensures { λ r. ⌜ Put (now (out .entry)) (now (out .exit)) at (bucketFrom (now (table .entry)) i) r ⌝ }
+{
+    let a = table[i];
+    let b = table[i + 1];
+    let c = table[i + 2];
+    let d = table[i + 3];
+    let marks = nibble(a != 0, b != 0, c != 0, d != 0);
+    let at = put_byte(out, at, marks);
+    let at = put_pair_field(out, at, a != 0, a);
+    let at = put_pair_field(out, at, b != 0, b);
+    let at = put_pair_field(out, at, c != 0, c);
+    put_pair_field(out, at, d != 0, d)
+}
+
+// The second pass over the cells.
+fn put_body(out: &mut [u8], from: usize, table: &[u16])
+    requires { ⌜ (length (now table) % 4 ≡ 0) × (from + length (body (now table)) ≤ length (now out)) ⌝ }
+    ensures { λ r. ⌜ now (out .exit) ≡ sets (now (out .entry)) from (body (now (table .entry))) ⌝ }
+{
+    let mut at = from;
+    let mut i = 0;
+    while i < table.len() {
+        at = put_bucket(out, at, table, i);
+        i += 4;
+    }
+}
+
+// The table as a file. Nothing is written before every check has passed.
+pub fn write(s: Settings, table: &[u16], out: &mut [u8]) -> WriteAnswer
+    ensures { λ r. ⌜ record { answer = writeIs r; output = now (out .exit) } ≡ writeFile s (now (table .entry)) (now (out .entry)) ⌝ }
+{
+    let n = table::table_refusal(s, table);
+    if n != 0 {
+        return WriteAnswer::Refused(n);
+    }
+    let width = s.width;
+    let buckets = s.buckets as usize;
+    let Size::Bytes(cells) = body_size(table, width, buckets) else {
+        return WriteAnswer::Refused(17);
+    };
+    let needed = header_size(s) + cells;
+    if out.len() < needed {
+        return WriteAnswer::Refused(16);
+    }
+    let at = put_header(out, s);
+    put_body(out, at, table);
+    WriteAnswer::Written(needed)
+}
+
+// ── the reader ──
+
+// Two bytes, low byte first.
+fn pair_of(low: u8, high: u8) -> u16
+    ensures { λ r. ⌜ r ≡ low + 256 * high ⌝ }
+{
+    (low as u16) + 256 * (high as u16)
+}
+
+fn widen(x: u8) -> u16
+    ensures { λ r. ⌜ r ≡ x ⌝ }
+{
+    x as u16
+}
+
+// One byte.
+fn byte_at(bytes: &[u8], at: usize) -> Field
+    ensures { λ r. ⌜ fieldIs (now (bytes .entry)) r ≡ takeByte (drop at (now (bytes .entry))) ⌝ }
+{
+    if at < bytes.len() {
+        return Field::Value(widen(bytes[at]), at + 1);
+    }
+    Field::Short
+}
+
+// A number of two bytes.
+fn pair_at(bytes: &[u8], at: usize) -> Field
+    ensures { λ r. ⌜ fieldIs (now (bytes .entry)) r ≡ takePair (drop at (now (bytes .entry))) ⌝ }
+{
+    if at < bytes.len() {
+        let high = at + 1;
+        if high < bytes.len() {
+            return Field::Value(pair_of(bytes[at], bytes[high]), high + 1);
+        }
+    }
+    Field::Short
+}
+
+// A field where its bit stands, else its default, which takes no bytes.
+fn byte_field(bytes: &[u8], at: usize, stands: bool, default: u16) -> Field
+    ensures { λ r. ⌜ fieldIs (now (bytes .entry)) r ≡ field stands default takeByte (drop at (now (bytes .entry))) ⌝ }
+{
+    if stands {
+        return byte_at(bytes, at);
+    }
+    Field::Value(default, at)
+}
+
+fn pair_field(bytes: &[u8], at: usize, stands: bool, default: u16) -> Field
+    ensures { λ r. ⌜ fieldIs (now (bytes .entry)) r ≡ field stands default takePair (drop at (now (bytes .entry))) ⌝ }
+{
+    if stands {
+        return pair_at(bytes, at);
+    }
+    Field::Value(default, at)
+}
+
+// A fingerprint that no filled cell of the width has.
+fn unfit(marked: bool, v: u16, width: u32) -> bool
+    requires { ⌜ width ≤ 16 ⌝ }
+    ensures { λ r. ⌜ r ≡ (marked && (eqb v 0 || leb (2 ^ width) v)) ⌝ }
+{
+    if !marked {
+        return false;
+    }
+    if v == 0 {
+        return true;
+    }
+    wide(v) >= 1u32 << width
+}
+
+// The bucket at a place. A cell that is not marked takes no bytes and is 0.
+fn bucket_at(bytes: &[u8], at: usize, width: u32) -> Bucket
+    requires { ⌜ width ≤ 16 ⌝ }
+    ensures { λ r. ⌜ bucketIs (now (bytes .entry)) r ≡ readBucket width (drop at (now (bytes .entry))) ⌝ }
+{
+    let Field::Value(marks, at) = byte_at(bytes, at) else {
+        return Bucket::Refused(11);
+    };
+    if marks >= 16 {
+        return Bucket::Refused(13);
+    }
+    let Field::Value(a, at) = pair_field(bytes, at, marks % 2 == 1, 0) else {
+        return Bucket::Refused(11);
+    };
+    if unfit(marks % 2 == 1, a, width) {
+        return Bucket::Refused(14);
+    }
+    let Field::Value(b, at) = pair_field(bytes, at, marks / 2 % 2 == 1, 0) else {
+        return Bucket::Refused(11);
+    };
+    if unfit(marks / 2 % 2 == 1, b, width) {
+        return Bucket::Refused(14);
+    }
+    let Field::Value(c, at) = pair_field(bytes, at, marks / 4 % 2 == 1, 0) else {
+        return Bucket::Refused(11);
+    };
+    if unfit(marks / 4 % 2 == 1, c, width) {
+        return Bucket::Refused(14);
+    }
+    let Field::Value(d, at) = pair_field(bytes, at, marks / 8 % 2 == 1, 0) else {
+        return Bucket::Refused(11);
+    };
+    if unfit(marks / 8 % 2 == 1, d, width) {
+        return Bucket::Refused(14);
+    }
+    Bucket::Cells(a, b, c, d, at)
+}
+
+// The first pass over the buckets: it checks, and stores nothing.
+fn check_buckets(bytes: &[u8], from: usize, width: u32, count: u32) -> Pass
+    requires { ⌜ width ≤ 16 ⌝ }
+    ensures { λ r. ⌜ passIs (now (bytes .entry)) r ≡ endOf (readBuckets width count (drop from (now (bytes .entry)))) ⌝ }
+{
+    let mut at = from;
+    let mut left = count;
+    while left > 0 {
+        match bucket_at(bytes, at, width) {
+            Bucket::Refused(n) => {
+                return Pass::Refused(n);
+            }
+            Bucket::Cells(_, _, _, _, next) => {
+                at = next;
+            }
+        }
+        left -= 1;
+    }
+    Pass::End(at)
+}
+
+// The four cells of one bucket, lent as a part of the table.
+fn put_cells(part: &mut [u16], a: u16, b: u16, c: u16, d: u16)
+    requires { ⌜ length (now part) ≡ 4 ⌝ }
+    ensures { λ r. ⌜ now (part .exit) ≡ a ∷ b ∷ c ∷ d ∷ [] ⌝ }
+{
+    part[0] = a;
+    part[1] = b;
+    part[2] = c;
+    part[3] = d;
+}
+
+// One bucket into the cells from i on; the place after it. The first pass has met no refusal.
+fn store_bucket(bytes: &[u8], at: usize, width: u32, table: &mut [u16], i: usize) -> usize
+    requires { ⌜ (width ≤ 16) × (i + 4 ≤ length (now table)) × Passed (readBucket width (drop at (now bytes))) ⌝ }
+    ensures { λ r. ⌜ Stored width (now (bytes .entry)) (now (table .entry)) (now (table .exit)) at i r ⌝ }
+{
+    let Bucket::Cells(a, b, c, d, next) = bucket_at(bytes, at, width) else {
+        return at;
+    };
+    let end = i + 4;
+    put_cells(&mut table[i..end], a, b, c, d);
+    next
+}
+
+// The second pass: every bucket into the table.
+fn store_buckets(bytes: &[u8], from: usize, width: u32, count: u32, table: &mut [u16])
+    requires { ⌜ (width ≤ 16) × (length (now table) ≡ 4 * count) × Passed (readBuckets width count (drop from (now bytes))) ⌝ }
+    ensures { λ r. ⌜ now (table .exit) ≡ cellsOf (readBuckets width count (drop from (now (bytes .entry)))) ⌝ }
+{
+    let mut at = from;
+    let mut i = 0;
+    let mut left = count;
+    while left > 0 {
+        at = store_bucket(bytes, at, width, table, i);
+        i += 4;
+        left -= 1;
+    }
+}
+
+// What follows the header, once the fields are known.
+fn read_body(s: Settings, bytes: &[u8], at: usize, table: &mut [u16]) -> ReadAnswer
+    ensures { λ r. ⌜ record { answer = readIs r; cells = now (table .exit) } ≡ readOut (now (table .entry)) (afterHeader (now (table .entry)) s (drop at (now (bytes .entry)))) ⌝ }
+{
+    let n = table::table_refusal(s, table);
+    if n != 0 {
+        return ReadAnswer::Refused(n);
+    }
+    let width = s.width;
+    let buckets = s.buckets;
+    match check_buckets(bytes, at, width, buckets) {
+        Pass::Refused(k) => ReadAnswer::Refused(k),
+        Pass::End(end) => {
+            if end < bytes.len() {
+                return ReadAnswer::Refused(15);
+            }
+            store_buckets(bytes, at, width, buckets, table);
+            ReadAnswer::Read(s)
+        }
+    }
+}
+
+// A field that stands although it has its default.
+fn needless(stands: bool, x: u32, default: u32) -> bool
+    ensures { λ r. ⌜ r ≡ (stands && eqb x default) ⌝ }
+{
+    if stands {
+        return x == default;
+    }
+    false
+}
+
+// A field that has its default, or a mask's bit that does not fit the rule.
+fn misfit(map: u16, s: Settings) -> bool
+    ensures { λ r. ⌜ r ≡ misfitOf map s ⌝ }
+{
+    let rule = s.rule;
+    let width = s.width;
+    let buckets = s.buckets;
+    if needless(map % 2 == 1, rule, Settings::RULE) {
+        return true;
+    }
+    if needless(map / 2 % 2 == 1, width, Settings::WIDTH) {
+        return true;
+    }
+    if needless(map / 4 % 2 == 1, buckets, Settings::BUCKETS) {
+        return true;
+    }
+    if map / 8 % 2 == 1 {
+        return rule != 2;
+    }
+    rule == 2
+}
+
+// A file's settings, with its cells in the table. The table is written once the whole file has passed.
+pub fn read(bytes: &[u8], table: &mut [u16]) -> ReadAnswer
+    ensures { λ r. ⌜ record { answer = readIs r; cells = now (table .exit) } ≡ readFile (now (bytes .entry)) (now (table .entry)) ⌝ }
+{
+    let Field::Value(map, at) = byte_at(bytes, 0) else {
+        return ReadAnswer::Refused(11);
+    };
+    if map >= 16 {
+        return ReadAnswer::Refused(12);
+    }
+    let Field::Value(rule, at) = byte_field(bytes, at, map % 2 == 1, RULE) else {
+        return ReadAnswer::Refused(11);
+    };
+    let Field::Value(width, at) = byte_field(bytes, at, map / 2 % 2 == 1, WIDTH) else {
+        return ReadAnswer::Refused(11);
+    };
+    let Field::Value(less, at) = pair_field(bytes, at, map / 4 % 2 == 1, LESS) else {
+        return ReadAnswer::Refused(11);
+    };
+    let Field::Value(mask, at) = pair_field(bytes, at, map / 8 % 2 == 1, MASK) else {
+        return ReadAnswer::Refused(11);
+    };
+    let buckets = wide(less) + 1;
+    let s = Settings {
+        rule: wide(rule),
+        width: wide(width),
+        buckets,
+        mask: wide(mask),
+    };
+    if misfit(map, s) {
+        return ReadAnswer::Refused(12);
+    }
+    read_body(s, bytes, at, table)
+}

@@ -1,0 +1,6 @@
+-- What a reader has to believe of the packed form (semi-sorted buckets): rows, the writer, the reader, and what they keep.
+pub mod Writer
+pub mod Reader
+pub mod RoundTrip
+pub mod Answers
+pub mod Passing

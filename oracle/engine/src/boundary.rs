@@ -1,0 +1,192 @@
+//! The functions of the C library, on slices.
+
+use oracle::index::Settings;
+use std::ptr;
+
+#[rustfmt::skip]
+extern "C" {
+    fn holdlist_settings_check(rule: u32, width: u32, buckets: u32, mask: u32) -> i64;
+    fn holdlist_fingerprint(rule: u32, width: u32, buckets: u32, mask: u32, tag: *const u8, length: usize) -> i64;
+    fn holdlist_home(rule: u32, width: u32, buckets: u32, mask: u32, tag: *const u8, length: usize) -> i64;
+    fn holdlist_offset(rule: u32, width: u32, buckets: u32, mask: u32, fingerprint: u16) -> i64;
+    fn holdlist_candidates(rule: u32, width: u32, buckets: u32, mask: u32, fingerprint: u16, bucket: u32, out: *mut u32) -> i64;
+    fn holdlist_clear(rule: u32, width: u32, buckets: u32, mask: u32, table: *mut u16, cells: usize) -> i64;
+    fn holdlist_lookup(rule: u32, width: u32, buckets: u32, mask: u32, table: *const u16, cells: usize, tag: *const u8, length: usize) -> i64;
+    fn holdlist_release(rule: u32, width: u32, buckets: u32, mask: u32, table: *mut u16, cells: usize, tag: *const u8, length: usize) -> i64;
+    fn holdlist_hold(rule: u32, width: u32, buckets: u32, mask: u32, table: *mut u16, cells: usize, scratch: *mut u32, words: usize, tag: *const u8, length: usize) -> i64;
+    fn holdlist_view_check(rule: u32, width: u32, buckets: u32, mask: u32, table: *const u16, cells: usize, bucket: u32) -> i64;
+    fn holdlist_file_write(rule: u32, width: u32, buckets: u32, mask: u32, table: *const u16, cells: usize, out: *mut u8, room: usize) -> i64;
+    fn holdlist_file_read(bytes: *const u8, length: usize, table: *mut u16, cells: usize, settings: *mut u32) -> i64;
+    fn holdlist_packed_write(rule: u32, width: u32, buckets: u32, mask: u32, table: *const u16, cells: usize, out: *mut u8, room: usize) -> i64;
+    fn holdlist_packed_read(rule: u32, width: u32, buckets: u32, mask: u32, bytes: *const u8, length: usize, table: *mut u16, cells: usize) -> i64;
+}
+
+/// The engine. It is lent an empty buffer as null or by its place.
+#[derive(Clone, Copy)]
+pub struct Engine {
+    pub null: bool,
+}
+
+// Each call lends slices whole, so that what the library is handed is good for the count that goes
+// with it, and no two overlap where one is written.
+impl Engine {
+    fn place<T>(self, part: &[T]) -> *const T {
+        match self.null && part.is_empty() {
+            true => ptr::null(),
+            false => part.as_ptr(),
+        }
+    }
+
+    fn place_mut<T>(self, part: &mut [T]) -> *mut T {
+        match self.null && part.is_empty() {
+            true => ptr::null_mut(),
+            false => part.as_mut_ptr(),
+        }
+    }
+
+    pub fn settings_check(self, s: Settings) -> i64 {
+        unsafe { holdlist_settings_check(s.rule, s.width, s.buckets, s.mask) }
+    }
+
+    pub fn fingerprint(self, s: Settings, tag: &[u8]) -> i64 {
+        let place = self.place(tag);
+        unsafe { holdlist_fingerprint(s.rule, s.width, s.buckets, s.mask, place, tag.len()) }
+    }
+
+    pub fn home(self, s: Settings, tag: &[u8]) -> i64 {
+        let place = self.place(tag);
+        unsafe { holdlist_home(s.rule, s.width, s.buckets, s.mask, place, tag.len()) }
+    }
+
+    pub fn offset(self, s: Settings, value: u16) -> i64 {
+        unsafe { holdlist_offset(s.rule, s.width, s.buckets, s.mask, value) }
+    }
+
+    pub fn candidates(self, s: Settings, value: u16, bucket: u32, out: &mut [u32; 4]) -> i64 {
+        let place = out.as_mut_ptr();
+        unsafe { holdlist_candidates(s.rule, s.width, s.buckets, s.mask, value, bucket, place) }
+    }
+
+    pub fn clear(self, s: Settings, table: &mut [u16]) -> i64 {
+        let place = self.place_mut(table);
+        unsafe { holdlist_clear(s.rule, s.width, s.buckets, s.mask, place, table.len()) }
+    }
+
+    pub fn lookup(self, s: Settings, table: &[u16], tag: &[u8]) -> i64 {
+        unsafe {
+            holdlist_lookup(
+                s.rule,
+                s.width,
+                s.buckets,
+                s.mask,
+                self.place(table),
+                table.len(),
+                self.place(tag),
+                tag.len(),
+            )
+        }
+    }
+
+    pub fn release(self, s: Settings, table: &mut [u16], tag: &[u8]) -> i64 {
+        unsafe {
+            holdlist_release(
+                s.rule,
+                s.width,
+                s.buckets,
+                s.mask,
+                self.place_mut(table),
+                table.len(),
+                self.place(tag),
+                tag.len(),
+            )
+        }
+    }
+
+    pub fn hold(self, s: Settings, table: &mut [u16], scratch: &mut [u32], tag: &[u8]) -> i64 {
+        unsafe {
+            holdlist_hold(
+                s.rule,
+                s.width,
+                s.buckets,
+                s.mask,
+                self.place_mut(table),
+                table.len(),
+                self.place_mut(scratch),
+                scratch.len(),
+                self.place(tag),
+                tag.len(),
+            )
+        }
+    }
+
+    pub fn view_check(self, s: Settings, table: &[u16], bucket: u32) -> i64 {
+        unsafe {
+            holdlist_view_check(
+                s.rule,
+                s.width,
+                s.buckets,
+                s.mask,
+                self.place(table),
+                table.len(),
+                bucket,
+            )
+        }
+    }
+
+    pub fn file_write(self, s: Settings, table: &[u16], out: &mut [u8]) -> i64 {
+        unsafe {
+            holdlist_file_write(
+                s.rule,
+                s.width,
+                s.buckets,
+                s.mask,
+                self.place(table),
+                table.len(),
+                self.place_mut(out),
+                out.len(),
+            )
+        }
+    }
+
+    pub fn file_read(self, bytes: &[u8], table: &mut [u16], settings: &mut [u32; 4]) -> i64 {
+        unsafe {
+            holdlist_file_read(
+                self.place(bytes),
+                bytes.len(),
+                self.place_mut(table),
+                table.len(),
+                settings.as_mut_ptr(),
+            )
+        }
+    }
+
+    pub fn packed_write(self, s: Settings, table: &[u16], out: &mut [u8]) -> i64 {
+        unsafe {
+            holdlist_packed_write(
+                s.rule,
+                s.width,
+                s.buckets,
+                s.mask,
+                self.place(table),
+                table.len(),
+                self.place_mut(out),
+                out.len(),
+            )
+        }
+    }
+
+    pub fn packed_read(self, s: Settings, bytes: &[u8], table: &mut [u16]) -> i64 {
+        unsafe {
+            holdlist_packed_read(
+                s.rule,
+                s.width,
+                s.buckets,
+                s.mask,
+                self.place(bytes),
+                bytes.len(),
+                self.place_mut(table),
+                table.len(),
+            )
+        }
+    }
+}

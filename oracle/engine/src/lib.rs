@@ -1,0 +1,12 @@
+//! The engine through its C boundary, held to the other implementation call by call.
+//!
+//! Every call is made on both sides, and after it are compared the answer, every cell, every output
+//! byte and what stands around each buffer that was lent. Scratch is compared where a call is
+//! refused before it may be used.
+//!
+//! The tests are generated from a seed, which each prints with the number of its calls.
+//! `HOLDLIST_SEED` sets another, and `HOLDLIST_LONG` makes the runs so many times as long.
+
+pub mod boundary;
+pub mod make;
+pub mod pair;

@@ -1,0 +1,168 @@
+//! The calls on settings, tags and buckets, and buffers that are empty.
+
+use engine::make::{long, one_of, settings, spoil, tag};
+use engine::pair::{Call, Lend, Pair};
+use oracle::fnv_strings::KNOWN;
+use oracle::index::{Settings, MASKED, PLAIN, RING};
+
+#[test]
+fn settings_grid() {
+    let mut pair = Pair::new("settings");
+    let mut counts: Vec<u32> = (0..=40).collect();
+    for log in 6..=31 {
+        counts.extend([(1 << log) - 2, (1 << log) - 1, 1 << log, (1 << log) + 1]);
+    }
+    counts.extend([65_538, 65_540, u32::MAX - 1, u32::MAX]);
+    for rule in [0, 1, 2, 3, 4, 256, 1 << 31, u32::MAX] {
+        for width in [0, 3, 4, 5, 12, 15, 16, 17, 32, u32::MAX] {
+            for &buckets in &counts {
+                let around = [buckets.wrapping_sub(1), buckets, buckets.wrapping_add(1)];
+                for mask in [0, 1, 65_535, u32::MAX].into_iter().chain(around) {
+                    let s = Settings::new(rule, width, buckets, mask);
+                    pair.run(Lend::of(s), Call::Check);
+                }
+            }
+        }
+    }
+    pair.done(&[1, 2, 3, 4]);
+}
+
+#[test]
+fn known_strings() {
+    let mut pair = Pair::new("known strings");
+    for known in KNOWN {
+        for rule in [PLAIN, RING, MASKED] {
+            for width in 4..=16 {
+                let lend = Lend::of(Settings::new(rule, width, 65_536, 0));
+                pair.run(lend, Call::Fingerprint(&known.bytes()));
+                pair.run(lend, Call::Home(&known.bytes()));
+            }
+        }
+    }
+    pair.done(&[]);
+}
+
+#[test]
+fn tags() {
+    let mut pair = Pair::new("tags");
+    for _ in 0..40 * long() {
+        let good = settings(&mut pair.mix, 16);
+        let bad = spoil(&mut pair.mix, good);
+        for length in (0..=66).chain([67, 127, 128, 255, 256, 257, 320, 1_000, 1_024]) {
+            let tag = pair.mix.bytes(length);
+            for s in [good, bad] {
+                pair.run(Lend::of(s), Call::Fingerprint(&tag));
+                pair.run(Lend::of(s), Call::Home(&tag));
+            }
+        }
+    }
+    // A hash whose low bits are 0 has the fingerprint 1.
+    let narrow = Lend::of(Settings::new(PLAIN, 4, 1, 0));
+    let ones = (0..=u8::MAX)
+        .filter(|&byte| pair.run(narrow, Call::Fingerprint(&[byte])) == 1)
+        .count();
+    assert!(ones > 16, "{ones}");
+    pair.done(&[1, 2, 3, 4, 7]);
+}
+
+#[test]
+fn candidates() {
+    let mut pair = Pair::new("candidates");
+    // Every offset of some settings.
+    for s in [
+        Settings::new(PLAIN, 16, 65_536, 0),
+        Settings::new(RING, 4, 65_534, 0),
+        Settings::new(MASKED, 12, 1_024, 0x155),
+    ] {
+        for value in 0..=u16::MAX {
+            pair.run(Lend::of(s), Call::Offset(value));
+        }
+    }
+    // Every bucket of small ones, with some beyond.
+    for _ in 0..400 * long() {
+        let s = settings(&mut pair.mix, 5);
+        for bucket in (0..s.buckets + 2).chain([u32::MAX]) {
+            let value = pair.mix.draw() as u16;
+            pair.run(Lend::of(s), Call::Candidates(value, bucket));
+        }
+    }
+    for _ in 0..30_000 * long() {
+        let mut s = settings(&mut pair.mix, 16);
+        let value = match pair.mix.below(4) {
+            0 => one_of(&mut pair.mix, &[0, 1, 0x7fff, 0x8000, 0xffff]),
+            _ => pair.mix.draw() as u16,
+        };
+        let bucket = match pair.mix.below(8) {
+            0 => s.buckets - 1,
+            1 => s.buckets / 2,
+            2 => s.buckets.wrapping_add(pair.mix.below(3)),
+            _ => pair.mix.below(s.buckets.into()),
+        };
+        if pair.mix.below(20) == 0 {
+            s = spoil(&mut pair.mix, s);
+        }
+        pair.run(Lend::of(s), Call::Candidates(value, bucket));
+        pair.run(Lend::of(s), Call::Offset(value));
+    }
+    pair.done(&[1, 2, 3, 4, 8]);
+}
+
+/// Each buffer in turn, and all of them, with nothing in it: as null, or by its place.
+#[test]
+fn empty_buffers() {
+    let mut pair = Pair::new("empty buffers");
+    let good = Settings::new(PLAIN, 4, 2, 0);
+    let whole = Lend::of(good).input(5).room(64);
+    let none = Lend {
+        cells: 0,
+        words: 0,
+        input: 0,
+        room: 0,
+        ..whole
+    };
+    pair.size(whole.cells, whole.words, 64);
+    let tag = tag(1);
+    // Each is lent both ways in some of the rounds.
+    for _ in 0..40 {
+        pair.set_table(0, &[1, 2, 3, 4, 5, 6, 7, 8]);
+        let mut expect = |lend: Lend, call: Call, answer: i64| {
+            assert_eq!(pair.run(lend, call), answer, "{lend:?} {call:?}");
+        };
+        expect(none, Call::Check, 0);
+        expect(none, Call::Fingerprint(&[]), -7);
+        expect(none, Call::Home(&[]), -7);
+        for call in [
+            Call::Clear,
+            Call::Lookup(&tag),
+            Call::Lookup(&[]),
+            Call::Release(&tag),
+            Call::Release(&[]),
+            Call::Hold(&tag),
+            Call::Hold(&[]),
+            Call::View(0),
+            Call::FileWrite,
+            Call::PackedWrite,
+            Call::PackedRead,
+        ] {
+            expect(none, call, -5);
+            expect(Lend { cells: 0, ..whole }, call, -5);
+        }
+        expect(whole, Call::Lookup(&[]), -7);
+        expect(whole, Call::Release(&[]), -7);
+        expect(whole, Call::Hold(&[]), -7);
+        expect(Lend { words: 0, ..whole }, Call::Hold(&tag), -6);
+        expect(Lend { words: 0, ..whole }, Call::Hold(&[]), -6);
+        expect(none, Call::FileRead, -11);
+        expect(whole.input(0), Call::FileRead, -11);
+        expect(whole.input(0), Call::PackedRead, -11);
+        expect(whole.room(0), Call::FileWrite, -16);
+        expect(whole.room(0), Call::PackedWrite, -16);
+        // A good file of a table that is not there.
+        pair.set_input(0, &[0x06, 4, 1, 0, 0]);
+        pair.set_input(5, &[0]);
+        assert_eq!(pair.run(none.input(6), Call::FileRead), -5);
+        assert_eq!(pair.run(whole.input(6), Call::FileRead), 0);
+        assert_eq!(pair.table()[..8], [0; 8]);
+    }
+    pair.done(&[5, 6, 7, 11, 16]);
+}

@@ -1,0 +1,427 @@
+//! The hold file: the settings, as far as they are not the defaults, and the filled cells.
+
+use crate::index::{Answer, Settings, MASKED, PLAIN};
+
+/// Cells in a bucket.
+const CELLS: usize = 4;
+
+/// What a field that is not in the file has.
+const DEFAULTS: Settings = Settings {
+    rule: PLAIN,
+    width: 12,
+    buckets: 4_096,
+    mask: 0,
+};
+
+/// The bits of the map, in the order of the fields.
+const RULE: u8 = 1;
+const WIDTH: u8 = 2;
+const BUCKETS: u8 = 4;
+const MASK: u8 = 8;
+
+/// Four 16-bit numbers side by side, of which each is 1.
+const ONES: u64 = 0x0001_0001_0001_0001;
+
+pub(crate) fn check_table(settings: Settings, table: &[u16]) -> Answer<()> {
+    settings.check()?;
+    if table.len() != CELLS * settings.buckets as usize {
+        return Err(5);
+    }
+    Ok(())
+}
+
+/// What either writer checks before its output.
+pub(crate) fn check_cells(settings: Settings, table: &[u16]) -> Answer<()> {
+    check_table(settings, table)?;
+    let any = table.iter().fold(0, |any, cell| any | cell);
+    if u32::from(any) >> settings.width != 0 {
+        return Err(17);
+    }
+    Ok(())
+}
+
+/// The map and the fields that follow it.
+struct Head {
+    bytes: [u8; 7],
+    length: usize,
+}
+
+impl Head {
+    fn of(settings: Settings) -> Self {
+        let mut head = Head {
+            bytes: [0; 7],
+            length: 1,
+        };
+        if settings.rule != DEFAULTS.rule {
+            head.push(RULE, &[settings.rule as u8]);
+        }
+        if settings.width != DEFAULTS.width {
+            head.push(WIDTH, &[settings.width as u8]);
+        }
+        if settings.buckets != DEFAULTS.buckets {
+            head.push(BUCKETS, &((settings.buckets - 1) as u16).to_le_bytes());
+        }
+        if settings.rule == MASKED {
+            head.push(MASK, &(settings.mask as u16).to_le_bytes());
+        }
+        head
+    }
+
+    fn push(&mut self, bit: u8, field: &[u8]) {
+        self.bytes[0] |= bit;
+        self.bytes[self.length..][..field.len()].copy_from_slice(field);
+        self.length += field.len();
+    }
+
+    fn as_slice(&self) -> &[u8] {
+        &self.bytes[..self.length]
+    }
+}
+
+/// Writes the file, and answers how many bytes it has.
+pub fn write(settings: Settings, table: &[u16], out: &mut [u8]) -> Answer<usize> {
+    check_cells(settings, table)?;
+    let head = Head::of(settings);
+    let head = head.as_slice();
+    let filled = table.iter().filter(|&&cell| cell != 0).count();
+    let length = head.len() + settings.buckets as usize + 2 * filled;
+    let out = out.get_mut(..length).ok_or(16u32)?;
+    out[..head.len()].copy_from_slice(head);
+    let mut at = head.len();
+    for cells in table.chunks_exact(CELLS) {
+        // An empty cell adds nothing and takes no room.
+        let (mut map, mut prints, mut bits) = (0, 0, 0);
+        for (i, &cell) in cells.iter().enumerate() {
+            let filled = usize::from(cell != 0);
+            map |= filled << i;
+            prints |= u64::from(cell) << bits;
+            bits += 16 * filled;
+        }
+        let prints = prints.to_le_bytes();
+        let length = bits / 8;
+        out[at] = map as u8;
+        at += 1;
+        // What is written beyond the fingerprints, the next bucket writes over.
+        match out[at..].first_chunk_mut() {
+            Some(place) => *place = prints,
+            None => out[at..at + length].copy_from_slice(&prints[..length]),
+        }
+        at += length;
+    }
+    Ok(length)
+}
+
+/// The next bytes, all of them, or 11.
+fn take<const N: usize>(bytes: &mut &[u8]) -> Answer<[u8; N]> {
+    let (field, rest) = bytes.split_first_chunk().ok_or(11u32)?;
+    *bytes = rest;
+    Ok(*field)
+}
+
+/// Takes the map and the fields.
+fn take_head(bytes: &mut &[u8]) -> Answer<Settings> {
+    let [map] = take(bytes)?;
+    if map >> 4 != 0 {
+        return Err(12);
+    }
+    let present = |bit: u8| map & bit != 0;
+    let mut settings = DEFAULTS;
+    if present(RULE) {
+        settings.rule = u8::from_le_bytes(take(bytes)?).into();
+    }
+    if present(WIDTH) {
+        settings.width = u8::from_le_bytes(take(bytes)?).into();
+    }
+    if present(BUCKETS) {
+        settings.buckets = u32::from(u16::from_le_bytes(take(bytes)?)) + 1;
+    }
+    if present(MASK) {
+        settings.mask = u16::from_le_bytes(take(bytes)?).into();
+    }
+    if present(RULE) && settings.rule == DEFAULTS.rule
+        || present(WIDTH) && settings.width == DEFAULTS.width
+        || present(BUCKETS) && settings.buckets == DEFAULTS.buckets
+        || present(MASK) != (settings.rule == MASKED)
+    {
+        return Err(12);
+    }
+    Ok(settings)
+}
+
+/// How many cells a good bucket byte marks: digit by digit, for 15 down to 0.
+fn marked(map: u8) -> usize {
+    (0x4332_3221_3221_2110u64 >> (4 * map)) as usize % 16
+}
+
+/// The first eight bytes as one number, with zeros where there are fewer.
+fn word(bytes: &[u8]) -> u64 {
+    match bytes.first_chunk() {
+        Some(chunk) => u64::from_le_bytes(*chunk),
+        None => bytes
+            .iter()
+            .rev()
+            .fold(0, |word, &byte| word << 8 | u64::from(byte)),
+    }
+}
+
+/// Whether each of the lowest `count` of four 16-bit numbers is a fingerprint.
+fn all_prints(word: u64, count: usize, width: u32) -> bool {
+    let unused = u64::MAX.checked_shl(16 * count as u32).unwrap_or(0);
+    let above = ONES * (0xffff << width & 0xffff);
+    // With the others set, a number is 0 exactly where a borrow goes out of one whose top bit is
+    // clear.
+    let filled = word | unused;
+    let borrows = filled.wrapping_sub(ONES) & !filled & (ONES << 15);
+    word & above & !unused == 0 && borrows == 0
+}
+
+/// Checks the buckets and what follows them, in the order of the bytes.
+fn check_buckets(settings: Settings, bytes: &[u8]) -> Answer<()> {
+    let mut rest = bytes;
+    for _ in 0..settings.buckets {
+        let [map] = take(&mut rest)?;
+        if map > 15 {
+            return Err(13);
+        }
+        let count = marked(map);
+        let whole = count.min(rest.len() / 2);
+        if !all_prints(word(rest), whole, settings.width) {
+            return Err(14);
+        }
+        rest = rest.get(2 * count..).ok_or(11u32)?;
+    }
+    if !rest.is_empty() {
+        return Err(15);
+    }
+    Ok(())
+}
+
+/// Reads the file into the table, and answers the settings.
+pub fn read(bytes: &[u8], table: &mut [u16]) -> Answer<Settings> {
+    let mut rest = bytes;
+    let settings = take_head(&mut rest)?;
+    check_table(settings, table)?;
+    check_buckets(settings, rest)?;
+    for cells in table.chunks_exact_mut(CELLS) {
+        let map = rest[0];
+        let mut prints = word(&rest[1..]);
+        for (i, cell) in cells.iter_mut().enumerate() {
+            let filled = map >> i & 1;
+            *cell = prints as u16 * u16::from(filled);
+            prints >>= 16 * filled;
+        }
+        rest = &rest[1 + 2 * marked(map)..];
+    }
+    Ok(settings)
+}
+
+#[cfg(test)]
+mod tests {
+    use super::*;
+    use crate::index::RING;
+    use crate::requests::Mix;
+
+    const EXAMPLE: [u8; 9] = [0x06, 0x04, 0x00, 0x00, 0x0a, 0x09, 0x00, 0x03, 0x00];
+
+    /// What reading answers, where a refusal has to leave the table alone.
+    fn answer(bytes: &[u8], cells: usize) -> Answer<Settings> {
+        let mut table = vec![0x5a5a; cells];
+        let answer = read(bytes, &mut table);
+        assert!(answer.is_ok() || table.iter().all(|&cell| cell == 0x5a5a));
+        answer
+    }
+
+    fn refusal(bytes: &[u8], cells: usize) -> u32 {
+        answer(bytes, cells).unwrap_err()
+    }
+
+    #[test]
+    fn example() {
+        let settings = Settings::new(PLAIN, 4, 1, 0);
+        let mut out = [0xee; 12];
+        assert_eq!(write(settings, &[0, 9, 0, 3], &mut out), Ok(9));
+        assert_eq!(out[..9], EXAMPLE);
+        assert_eq!(out[9..], [0xee; 3]);
+        let mut table = [7; 4];
+        assert_eq!(read(&EXAMPLE, &mut table), Ok(settings));
+        assert_eq!(table, [0, 9, 0, 3]);
+    }
+
+    #[test]
+    fn marks() {
+        for map in 0..16u8 {
+            assert_eq!(marked(map), map.count_ones() as usize);
+        }
+    }
+
+    #[test]
+    fn heads() {
+        let head = |rule, width, buckets, mask| {
+            Head::of(Settings::new(rule, width, buckets, mask))
+                .as_slice()
+                .to_vec()
+        };
+        assert_eq!(head(PLAIN, 12, 4_096, 0), [0]);
+        assert_eq!(head(RING, 12, 4_096, 0), [1, 1]);
+        assert_eq!(head(PLAIN, 16, 4_096, 0), [2, 16]);
+        assert_eq!(head(PLAIN, 12, 65_536, 0), [4, 0xff, 0xff]);
+        assert_eq!(head(MASKED, 12, 4_096, 0), [9, 2, 0, 0]);
+        assert_eq!(head(MASKED, 5, 1, 0), [15, 2, 5, 0, 0, 0, 0]);
+        assert_eq!(
+            head(MASKED, 4, 1_024, 0x155),
+            [15, 2, 4, 0xff, 3, 0x55, 0x01]
+        );
+    }
+
+    #[test]
+    fn round_trips() {
+        let mut mix = Mix(11);
+        for settings in [
+            Settings::new(PLAIN, 12, 4_096, 0),
+            Settings::new(PLAIN, 16, 1, 0),
+            Settings::new(PLAIN, 4, 65_536, 0),
+            Settings::new(RING, 12, 6, 0),
+            Settings::new(RING, 16, 65_534, 0),
+            Settings::new(MASKED, 12, 4_096, 0),
+            Settings::new(MASKED, 7, 65_536, 65_535),
+            Settings::new(MASKED, 4, 1, 0),
+        ] {
+            for empty in [0, 1, 2, 5, 100] {
+                let below = 1 << settings.width;
+                let table: Vec<u16> = (0..4 * settings.buckets)
+                    .map(|_| match mix.below(4) < empty {
+                        true => 0,
+                        false => mix.below(below) as u16,
+                    })
+                    .collect();
+                let filled = table.iter().filter(|&&cell| cell != 0).count();
+                let mut out = mix.bytes(7 + 9 * settings.buckets as usize + 1);
+                let before = out.clone();
+                let length = write(settings, &table, &mut out).unwrap();
+                let head = Head::of(settings).length;
+                assert_eq!(length, head + settings.buckets as usize + 2 * filled);
+                assert_eq!(out[length..], before[length..]);
+                let mut back = vec![0xffff; table.len()];
+                assert_eq!(read(&out[..length], &mut back), Ok(settings));
+                assert_eq!(back, table);
+                // Just enough room, and one byte too little.
+                let mut exact = vec![0; length];
+                assert_eq!(write(settings, &table, &mut exact), Ok(length));
+                assert_eq!(exact, out[..length]);
+                let mut short = before[1..length].to_vec();
+                assert_eq!(write(settings, &table, &mut short), Err(16));
+                assert_eq!(short, before[1..length]);
+            }
+        }
+    }
+
+    #[test]
+    fn writer_refuses_in_order() {
+        let refused = |settings: Settings, cells: usize, cell: u16, room: usize| {
+            let mut out = vec![0xee; room];
+            let answer = write(settings, &vec![cell; cells], &mut out);
+            assert!(out.iter().all(|&byte| byte == 0xee));
+            answer.unwrap_err()
+        };
+        assert_eq!(refused(Settings::new(3, 3, 3, 3), 3, 99, 0), 1);
+        assert_eq!(refused(Settings::new(PLAIN, 17, 3, 3), 3, 99, 0), 2);
+        assert_eq!(refused(Settings::new(PLAIN, 4, 3, 3), 3, 99, 0), 3);
+        assert_eq!(refused(Settings::new(PLAIN, 4, 2, 3), 3, 99, 0), 4);
+        assert_eq!(refused(Settings::new(PLAIN, 4, 2, 0), 7, 99, 0), 5);
+        assert_eq!(refused(Settings::new(PLAIN, 4, 2, 0), 9, 99, 0), 5);
+        assert_eq!(refused(Settings::new(PLAIN, 4, 2, 0), 8, 16, 0), 17);
+        assert_eq!(refused(Settings::new(PLAIN, 15, 2, 0), 8, 1 << 15, 99), 17);
+        assert_eq!(refused(Settings::new(PLAIN, 4, 2, 0), 8, 15, 21), 16);
+        assert_eq!(refused(Settings::new(PLAIN, 16, 2, 0), 8, 0xffff, 0), 16);
+    }
+
+    #[test]
+    fn prefixes_end_early() {
+        for length in 0..EXAMPLE.len() {
+            assert_eq!(refusal(&EXAMPLE[..length], 4), 11, "{length}");
+        }
+        let all = [15, 2, 4, 3, 0, 2, 0, 1, 7, 0, 0, 0, 15, 1, 0, 2, 0, 3, 0, 4];
+        for length in 0..all.len() {
+            assert_eq!(refusal(&all[..length], 16), 11, "{length}");
+        }
+        assert_eq!(refusal(&all, 16), 11);
+        let whole = [&all[..], &[0]].concat();
+        assert_eq!(answer(&whole, 16), Ok(Settings::new(MASKED, 4, 4, 2)));
+    }
+
+    #[test]
+    fn each_refusal() {
+        let with = |at: usize, byte: u8| {
+            let mut bytes = EXAMPLE;
+            bytes[at] = byte;
+            refusal(&bytes, 4)
+        };
+        // A high bit of the map; a default that is there; bit 3 where it should not be, or not
+        // there where it should.
+        assert_eq!(with(0, 0x16), 12);
+        assert_eq!(with(0, 0x86), 12);
+        assert_eq!(with(1, 12), 12);
+        assert_eq!(refusal(&[0x01, 0x00], 4), 12);
+        assert_eq!(refusal(&[0x04, 0xff, 0x0f], 4), 12);
+        assert_eq!(refusal(&[0x08, 0x00, 0x00], 4), 12);
+        assert_eq!(refusal(&[0x01, 0x02], 4), 12);
+        assert_eq!(refusal(&[0x09, 0x01, 0x00, 0x00], 4), 12);
+        // The settings.
+        assert_eq!(refusal(&[0x01, 0x03], 4), 1);
+        assert_eq!(with(1, 3), 2);
+        assert_eq!(with(1, 17), 2);
+        assert_eq!(with(2, 2), 3);
+        assert_eq!(refusal(&[0x0d, 0x02, 0x00, 0x00, 0x01, 0x00], 4), 4);
+        // The table.
+        assert_eq!(refusal(&EXAMPLE, 3), 5);
+        assert_eq!(refusal(&EXAMPLE, 5), 5);
+        assert_eq!(refusal(&EXAMPLE, 0), 5);
+        // The buckets.
+        assert_eq!(with(4, 0x1a), 13);
+        assert_eq!(with(4, 0x80), 13);
+        assert_eq!(with(5, 0), 14);
+        assert_eq!(with(5, 16), 14);
+        assert_eq!(with(6, 1), 14);
+        assert_eq!(with(7, 0), 14);
+        assert_eq!(with(8, 0x80), 14);
+        // What follows them.
+        assert_eq!(refusal(&[&EXAMPLE[..], &[0]].concat(), 4), 15);
+        assert_eq!(with(4, 0x02), 15);
+        assert_eq!(with(4, 0x00), 15);
+        assert_eq!(with(4, 0x0b), 11);
+    }
+
+    #[test]
+    fn several_faults() {
+        // The high bits before the fields that are not there.
+        assert_eq!(refusal(&[0x1f], 0), 12);
+        // The end of a field before what those ahead of it say.
+        assert_eq!(refusal(&[0x03, 0x00], 0), 11);
+        assert_eq!(refusal(&[0x07, 0x07, 0x0c, 0xff], 0), 11);
+        assert_eq!(refusal(&[0x0f, 0x07, 0x11, 0xff, 0x0f, 0x00], 0), 11);
+        // The other causes of 12 before the settings.
+        assert_eq!(refusal(&[0x03, 0x07, 0x0c], 0), 12);
+        assert_eq!(refusal(&[0x09, 0x07, 0x00, 0x00], 0), 12);
+        assert_eq!(refusal(&[0x06, 0x11, 0xff, 0x0f], 0), 12);
+        // The settings in their order, before the table.
+        assert_eq!(refusal(&[0x07, 0x07, 0x11, 0x02, 0x00], 0), 1);
+        assert_eq!(refusal(&[0x06, 0x11, 0x02, 0x00], 0), 2);
+        assert_eq!(refusal(&[0x0d, 0x02, 0x02, 0x00, 0x09, 0x00], 0), 3);
+        assert_eq!(refusal(&[0x0d, 0x02, 0x01, 0x00, 0x09, 0x00], 0), 4);
+        // The table before the buckets.
+        assert_eq!(refusal(&[0x06, 0x04, 0x00, 0x00], 5), 5);
+        assert_eq!(refusal(&[0x06, 0x04, 0x00, 0x00, 0xff], 0), 5);
+        // The buckets by their bytes.
+        let buckets = |bytes: &[u8]| refusal(&[&[0x06, 4, 1, 0], bytes].concat(), 8);
+        assert_eq!(buckets(&[0xff, 0, 0, 0xff]), 13);
+        assert_eq!(buckets(&[0x01, 0, 0, 0xff]), 14);
+        assert_eq!(buckets(&[0x03, 0, 0, 1]), 14);
+        assert_eq!(buckets(&[0x03, 1, 0, 0]), 11);
+        assert_eq!(buckets(&[0x03, 1, 0, 16]), 11);
+        assert_eq!(buckets(&[0x0f, 1, 0, 16, 0]), 14);
+        assert_eq!(buckets(&[0x00, 0x10, 1, 2, 3]), 13);
+        assert_eq!(buckets(&[0x00, 0x01, 0, 0, 0]), 14);
+        assert_eq!(buckets(&[0x00, 0x00, 0xff, 0xff]), 15);
+        assert_eq!(buckets(&[0x01, 15, 0]), 11);
+    }
+}
