@@ -1,0 +1,349 @@
+//! A hold list: which tags are on hold, kept as fingerprints in a cuckoo filter. The code behind it
+//! is proved equal to its definition; this crate lends it memory and gives its answers Rust's
+//! types.
+//!
+//! A lookup never says clear of a tag that was held and not released. It may say held of a tag that
+//! was never held, if another one with the same fingerprint and the same candidate buckets is.
+//!
+//! ```
+//! use holdlist::{HoldList, Settings};
+//!
+//! let mut list = HoldList::new(Settings::ring(12, 1000))?;
+//! list.hold("gate 4, ewe 17")?;
+//! assert!(list.lookup("gate 4, ewe 17")?);
+//!
+//! let bytes = list.save();
+//! let copy = HoldList::load(&bytes)?;
+//! assert_eq!(copy, list);
+//!
+//! assert!(list.release("gate 4, ewe 17")?);
+//! assert!(!list.lookup("gate 4, ewe 17")?);
+//! # Ok::<(), holdlist::Refusal>(())
+//! ```
+//!
+//! The archive `libholdlist.a` is made by `rt staticlib holdlist` at the top of the repository, for
+//! x86-64 Linux. The build looks for it in the repository's `target/staticlib`, or in the folder
+//! that `HOLDLIST_LIB_DIR` names.
+#![warn(missing_docs)]
+
+mod raw;
+mod refusal;
+mod settings;
+
+pub use refusal::Refusal;
+pub use settings::Settings;
+
+use std::fmt;
+
+/// A list of held tags, with the memory that it needs.
+///
+/// Two lists are equal if they have the same settings and the same cells.
+#[derive(Clone)]
+pub struct HoldList {
+    settings: Settings,
+    table: Vec<u16>,
+    scratch: Vec<u32>,
+    entries: usize,
+    longest: u32,
+}
+
+/// What [`HoldList::stats`] answers.
+#[derive(Clone, Copy, Debug, PartialEq)]
+pub struct Stats {
+    /// The entries of the list: a tag that is held twice has two.
+    pub entries: usize,
+    /// The number of buckets, each with room for four entries.
+    pub buckets: u32,
+    /// The part of the cells that is filled, 0 to 1.
+    pub load: f64,
+    /// The most entries that one hold of this list has moved. A list that was read back starts from
+    /// 0.
+    pub longest: u32,
+}
+
+impl HoldList {
+    /// An empty list.
+    ///
+    /// ```
+    /// use holdlist::{HoldList, Refusal, Settings};
+    ///
+    /// assert!(HoldList::new(Settings::plain(12, 65536)).is_ok());
+    /// assert_eq!(HoldList::new(Settings::plain(12, 65537)), Err(Refusal::Buckets));
+    /// ```
+    ///
+    /// # Errors
+    /// As [`Settings::check`].
+    pub fn new(settings: Settings) -> Result<HoldList, Refusal> {
+        settings.check()?;
+        Ok(HoldList::of(settings, vec![0; settings.cells()], 0))
+    }
+
+    /// A list of cells that fit the settings, which pass.
+    fn of(settings: Settings, table: Vec<u16>, entries: usize) -> HoldList {
+        let scratch = vec![0; 2 * settings.buckets as usize];
+        HoldList {
+            settings,
+            table,
+            scratch,
+            entries,
+            longest: 0,
+        }
+    }
+
+    /// Holds a tag, and answers how many other entries moved to make room for it.
+    ///
+    /// ```
+    /// use holdlist::{HoldList, Refusal, Settings};
+    ///
+    /// // one bucket has room for four entries
+    /// let mut list = HoldList::new(Settings::plain(12, 1))?;
+    /// for _ in 0..4 {
+    ///     assert_eq!(list.hold(b"ewe"), Ok(0));
+    /// }
+    /// assert_eq!(list.hold(b"ewe"), Err(Refusal::Full));
+    /// assert_eq!(list.hold(b""), Err(Refusal::Tag));
+    /// # Ok::<(), Refusal>(())
+    /// ```
+    ///
+    /// # Errors
+    /// [`Refusal::Tag`], [`Refusal::Full`]. The list is then as it was.
+    pub fn hold(&mut self, tag: impl AsRef<[u8]>) -> Result<u32, Refusal> {
+        let moves = raw::hold(
+            self.settings,
+            &mut self.table,
+            &mut self.scratch,
+            tag.as_ref(),
+        )?;
+        self.entries += 1;
+        self.longest = self.longest.max(moves);
+        Ok(moves)
+    }
+
+    /// Releases a tag: one entry of it, and `false` if there is none.
+    ///
+    /// Release only what was held: of a tag that was not, the entry may be another's, with the same
+    /// fingerprint and the same candidates.
+    ///
+    /// # Errors
+    /// [`Refusal::Tag`].
+    pub fn release(&mut self, tag: impl AsRef<[u8]>) -> Result<bool, Refusal> {
+        let released = raw::release(self.settings, &mut self.table, tag.as_ref())?;
+        self.entries -= usize::from(released);
+        Ok(released)
+    }
+
+    /// Whether a tag is held.
+    ///
+    /// # Errors
+    /// [`Refusal::Tag`].
+    pub fn lookup(&self, tag: impl AsRef<[u8]>) -> Result<bool, Refusal> {
+        raw::lookup(self.settings, &self.table, tag.as_ref())
+    }
+
+    /// The four cells of a bucket. 0 is an empty cell, any other value a fingerprint.
+    ///
+    /// ```
+    /// use holdlist::{HoldList, Refusal};
+    ///
+    /// let mut list = HoldList::default();
+    /// list.hold("ewe")?;
+    /// let home = list.settings().home("ewe")?;
+    /// assert_eq!(list.view(home)?, [list.settings().fingerprint("ewe")?, 0, 0, 0]);
+    /// assert_eq!(list.view(4096), Err(Refusal::Bucket));
+    /// # Ok::<(), Refusal>(())
+    /// ```
+    ///
+    /// # Errors
+    /// [`Refusal::Bucket`].
+    pub fn view(&self, bucket: u32) -> Result<&[u16], Refusal> {
+        raw::view_check(self.settings, &self.table, bucket)?;
+        let at = 4 * bucket as usize;
+        Ok(&self.table[at..at + 4])
+    }
+
+    /// Every cell, bucket after bucket.
+    pub fn cells(&self) -> &[u16] {
+        &self.table
+    }
+
+    /// Makes the list empty.
+    ///
+    /// ```
+    /// use holdlist::HoldList;
+    ///
+    /// let mut list = HoldList::default();
+    /// list.hold("ewe")?;
+    /// list.clear();
+    /// assert!(list.is_empty() && !list.lookup("ewe")?);
+    /// # Ok::<(), holdlist::Refusal>(())
+    /// ```
+    pub fn clear(&mut self) {
+        sure(raw::clear(self.settings, &mut self.table));
+        self.entries = 0;
+        self.longest = 0;
+    }
+
+    /// The list as a hold file, with its settings.
+    ///
+    /// ```
+    /// use holdlist::{HoldList, Settings};
+    ///
+    /// // the default settings, and a byte for each empty bucket
+    /// assert_eq!(HoldList::default().save(), vec![0; 1 + 4096]);
+    /// // width and bucket count are not the default
+    /// assert_eq!(HoldList::new(Settings::plain(4, 1))?.save(), [6, 4, 0, 0, 0]);
+    /// # Ok::<(), holdlist::Refusal>(())
+    /// ```
+    pub fn save(&self) -> Vec<u8> {
+        // the map and four fields take at most 7 bytes, a bucket its byte, and an entry two
+        let mut out = vec![0; 7 + self.settings.buckets as usize + 2 * self.entries];
+        let count = sure(raw::file_write(self.settings, &self.table, &mut out));
+        out.truncate(count);
+        out
+    }
+
+    /// The list of a hold file.
+    ///
+    /// ```
+    /// use holdlist::{HoldList, Refusal, Settings};
+    ///
+    /// let list = HoldList::load(&[0x06, 4, 0, 0, 0x0a, 9, 0, 3, 0])?;
+    /// assert_eq!(list.settings(), Settings::plain(4, 1));
+    /// assert_eq!(list.cells(), [0, 9, 0, 3]);
+    /// assert_eq!(list.len(), 2);
+    /// assert_eq!(HoldList::load(&[0x06, 4, 0, 0, 0x0a, 9, 0, 3]), Err(Refusal::Short));
+    /// # Ok::<(), Refusal>(())
+    /// ```
+    ///
+    /// # Errors
+    /// [`Refusal::Short`], [`Refusal::Map`], those of [`Settings::check`] for the file's settings,
+    /// [`Refusal::BucketByte`], [`Refusal::Fingerprint`], [`Refusal::LeftOver`].
+    pub fn load(bytes: &[u8]) -> Result<HoldList, Refusal> {
+        let mut table = vec![0; 4 * buckets_named(bytes)];
+        let settings = raw::file_read(bytes, &mut table)?;
+        let entries = filled(&table);
+        Ok(HoldList::of(settings, table, entries))
+    }
+
+    /// The list in its packed form, which leaves out the settings and the order within a bucket.
+    ///
+    /// ```
+    /// use holdlist::HoldList;
+    ///
+    /// let list = HoldList::load(&[0x06, 4, 0, 0, 0x0a, 9, 0, 3, 0])?;
+    /// assert_eq!(list.pack(), [0x33, 0x00]);
+    /// # Ok::<(), holdlist::Refusal>(())
+    /// ```
+    pub fn pack(&self) -> Vec<u8> {
+        let Settings { width, buckets, .. } = self.settings;
+        // a bucket takes 4 × (width − 1) bits
+        let mut out = vec![0; ((width as usize - 1) * buckets as usize + 1) / 2];
+        let count = sure(raw::packed_write(self.settings, &self.table, &mut out));
+        out.truncate(count);
+        out
+    }
+
+    /// The list of a packed form, with the entries of each bucket ascending.
+    ///
+    /// ```
+    /// use holdlist::{HoldList, Refusal, Settings};
+    ///
+    /// let list = HoldList::unpack(Settings::plain(4, 1), &[0x33, 0x00])?;
+    /// assert_eq!(list.cells(), [0, 0, 3, 9]);
+    /// assert_eq!(HoldList::unpack(Settings::plain(4, 1), &[0x33, 0x10]), Err(Refusal::Filling));
+    /// # Ok::<(), Refusal>(())
+    /// ```
+    ///
+    /// # Errors
+    /// As [`Settings::check`], then [`Refusal::Short`], [`Refusal::LeftOver`], [`Refusal::Row`],
+    /// [`Refusal::Order`], [`Refusal::Filling`].
+    pub fn unpack(settings: Settings, bytes: &[u8]) -> Result<HoldList, Refusal> {
+        settings.check()?;
+        let mut table = vec![0; settings.cells()];
+        let entries = raw::packed_read(settings, bytes, &mut table)?;
+        Ok(HoldList::of(settings, table, entries))
+    }
+
+    /// The settings.
+    pub fn settings(&self) -> Settings {
+        self.settings
+    }
+
+    /// How many entries the list has.
+    pub fn len(&self) -> usize {
+        self.entries
+    }
+
+    /// Whether the list has no entry.
+    pub fn is_empty(&self) -> bool {
+        self.entries == 0
+    }
+
+    /// Entries, buckets, load and the longest relocation.
+    ///
+    /// ```
+    /// use holdlist::{HoldList, Settings};
+    ///
+    /// let mut list = HoldList::new(Settings::plain(12, 1))?;
+    /// list.hold("ewe")?;
+    /// let stats = list.stats();
+    /// assert_eq!((stats.entries, stats.buckets, stats.load, stats.longest), (1, 1, 0.25, 0));
+    /// # Ok::<(), holdlist::Refusal>(())
+    /// ```
+    pub fn stats(&self) -> Stats {
+        Stats {
+            entries: self.entries,
+            buckets: self.settings.buckets,
+            load: self.entries as f64 / self.table.len() as f64,
+            longest: self.longest,
+        }
+    }
+}
+
+impl Default for HoldList {
+    /// An empty list of the default settings.
+    fn default() -> HoldList {
+        sure(HoldList::new(Settings::default()))
+    }
+}
+
+impl PartialEq for HoldList {
+    fn eq(&self, other: &HoldList) -> bool {
+        self.settings == other.settings && self.table == other.table
+    }
+}
+
+impl Eq for HoldList {}
+
+impl fmt::Debug for HoldList {
+    fn fmt(&self, f: &mut fmt::Formatter<'_>) -> fmt::Result {
+        f.debug_struct("HoldList")
+            .field("settings", &self.settings)
+            .field("entries", &self.entries)
+            .finish_non_exhaustive()
+    }
+}
+
+/// The answer of a call that a list cannot be refused: its settings pass, its buffers have their
+/// sizes, and only cells of its width come into its table.
+fn sure<T>(answer: Result<T, Refusal>) -> T {
+    answer.unwrap_or_else(|refusal| unreachable!("{refusal}"))
+}
+
+fn filled(table: &[u16]) -> usize {
+    table.iter().filter(|&&cell| cell != 0).count()
+}
+
+/// How many buckets a hold file's header names, so that a table of that size can be lent. It
+/// decides nothing: where the header is bad, the reader refuses it before it looks at the table.
+fn buckets_named(bytes: &[u8]) -> usize {
+    let map = bytes.first().copied().unwrap_or(0);
+    if map & 4 == 0 {
+        return Settings::default().buckets as usize;
+    }
+    let at = 1 + usize::from(map & 1) + usize::from(map >> 1 & 1);
+    match bytes.get(at..at + 2) {
+        Some(&[low, high]) => 1 + usize::from(u16::from_le_bytes([low, high])),
+        _ => 0,
+    }
+}

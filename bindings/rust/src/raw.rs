@@ -1,0 +1,455 @@
+//! The boundary: the functions of the archive, and for each a safe function over slices.
+//!
+//! The functions ask nothing of the values that they are given. What is left of a caller's duty is
+//! that a buffer is there for as many elements as its count says, is aligned, and, where it is
+//! written, overlaps no other. A slice is that: shared ones may coincide, and nothing overlaps a
+//! `&mut`. An empty slice has a pointer that is not null, and nothing is read or written through
+//! it.
+
+use crate::{Refusal, Settings};
+
+mod c {
+    extern "C" {
+        pub fn holdlist_settings_check(rule: u32, width: u32, buckets: u32, mask: u32) -> i64;
+        pub fn holdlist_fingerprint(
+            rule: u32,
+            width: u32,
+            buckets: u32,
+            mask: u32,
+            tag: *const u8,
+            tag_count: usize,
+        ) -> i64;
+        pub fn holdlist_home(
+            rule: u32,
+            width: u32,
+            buckets: u32,
+            mask: u32,
+            tag: *const u8,
+            tag_count: usize,
+        ) -> i64;
+        pub fn holdlist_offset(
+            rule: u32,
+            width: u32,
+            buckets: u32,
+            mask: u32,
+            fingerprint: u16,
+        ) -> i64;
+        pub fn holdlist_candidates(
+            rule: u32,
+            width: u32,
+            buckets: u32,
+            mask: u32,
+            fingerprint: u16,
+            bucket: u32,
+            out: *mut u32,
+        ) -> i64;
+        pub fn holdlist_clear(
+            rule: u32,
+            width: u32,
+            buckets: u32,
+            mask: u32,
+            table: *mut u16,
+            table_count: usize,
+        ) -> i64;
+        pub fn holdlist_lookup(
+            rule: u32,
+            width: u32,
+            buckets: u32,
+            mask: u32,
+            table: *const u16,
+            table_count: usize,
+            tag: *const u8,
+            tag_count: usize,
+        ) -> i64;
+        pub fn holdlist_release(
+            rule: u32,
+            width: u32,
+            buckets: u32,
+            mask: u32,
+            table: *mut u16,
+            table_count: usize,
+            tag: *const u8,
+            tag_count: usize,
+        ) -> i64;
+        pub fn holdlist_hold(
+            rule: u32,
+            width: u32,
+            buckets: u32,
+            mask: u32,
+            table: *mut u16,
+            table_count: usize,
+            scratch: *mut u32,
+            scratch_count: usize,
+            tag: *const u8,
+            tag_count: usize,
+        ) -> i64;
+        pub fn holdlist_view_check(
+            rule: u32,
+            width: u32,
+            buckets: u32,
+            mask: u32,
+            table: *const u16,
+            table_count: usize,
+            bucket: u32,
+        ) -> i64;
+        pub fn holdlist_file_write(
+            rule: u32,
+            width: u32,
+            buckets: u32,
+            mask: u32,
+            table: *const u16,
+            table_count: usize,
+            out: *mut u8,
+            out_count: usize,
+        ) -> i64;
+        pub fn holdlist_file_read(
+            bytes: *const u8,
+            bytes_count: usize,
+            table: *mut u16,
+            table_count: usize,
+            settings: *mut u32,
+        ) -> i64;
+        pub fn holdlist_packed_write(
+            rule: u32,
+            width: u32,
+            buckets: u32,
+            mask: u32,
+            table: *const u16,
+            table_count: usize,
+            out: *mut u8,
+            out_count: usize,
+        ) -> i64;
+        pub fn holdlist_packed_read(
+            rule: u32,
+            width: u32,
+            buckets: u32,
+            mask: u32,
+            bytes: *const u8,
+            bytes_count: usize,
+            table: *mut u16,
+            table_count: usize,
+        ) -> i64;
+    }
+}
+
+/// A call with settings and the pointers and counts of slices. SAFETY: as the module says.
+macro_rules! call {
+    ($f:ident, $s:expr $(, $a:expr)*) => {{
+        let s: Settings = $s;
+        told(unsafe { c::$f(s.rule, s.width, s.buckets, s.mask $(, $a)*) })
+    }};
+}
+
+/// 0 or more is the answer, below 0 minus the number of a refusal.
+fn told(result: i64) -> Result<usize, Refusal> {
+    if result >= 0 {
+        return Ok(result as usize);
+    }
+    let refusal = u8::try_from(result.unsigned_abs())
+        .ok()
+        .and_then(Refusal::from_number);
+    Err(refusal.expect("every refusal has a number that is listed"))
+}
+
+pub fn settings_check(s: Settings) -> Result<(), Refusal> {
+    call!(holdlist_settings_check, s).map(drop)
+}
+
+pub fn fingerprint(s: Settings, tag: &[u8]) -> Result<u16, Refusal> {
+    call!(holdlist_fingerprint, s, tag.as_ptr(), tag.len()).map(|p| p as u16)
+}
+
+pub fn home(s: Settings, tag: &[u8]) -> Result<u32, Refusal> {
+    call!(holdlist_home, s, tag.as_ptr(), tag.len()).map(|b| b as u32)
+}
+
+pub fn offset(s: Settings, fingerprint: u16) -> Result<u32, Refusal> {
+    call!(holdlist_offset, s, fingerprint).map(|d| d as u32)
+}
+
+pub fn candidates(
+    s: Settings,
+    fingerprint: u16,
+    bucket: u32,
+    out: &mut [u32; 4],
+) -> Result<usize, Refusal> {
+    call!(
+        holdlist_candidates,
+        s,
+        fingerprint,
+        bucket,
+        out.as_mut_ptr()
+    )
+}
+
+pub fn clear(s: Settings, table: &mut [u16]) -> Result<(), Refusal> {
+    call!(holdlist_clear, s, table.as_mut_ptr(), table.len()).map(drop)
+}
+
+pub fn lookup(s: Settings, table: &[u16], tag: &[u8]) -> Result<bool, Refusal> {
+    call!(
+        holdlist_lookup,
+        s,
+        table.as_ptr(),
+        table.len(),
+        tag.as_ptr(),
+        tag.len()
+    )
+    .map(|n| n == 1)
+}
+
+pub fn release(s: Settings, table: &mut [u16], tag: &[u8]) -> Result<bool, Refusal> {
+    call!(
+        holdlist_release,
+        s,
+        table.as_mut_ptr(),
+        table.len(),
+        tag.as_ptr(),
+        tag.len()
+    )
+    .map(|n| n == 1)
+}
+
+pub fn hold(
+    s: Settings,
+    table: &mut [u16],
+    scratch: &mut [u32],
+    tag: &[u8],
+) -> Result<u32, Refusal> {
+    call!(
+        holdlist_hold,
+        s,
+        table.as_mut_ptr(),
+        table.len(),
+        scratch.as_mut_ptr(),
+        scratch.len(),
+        tag.as_ptr(),
+        tag.len()
+    )
+    .map(|moves| moves as u32)
+}
+
+pub fn view_check(s: Settings, table: &[u16], bucket: u32) -> Result<(), Refusal> {
+    call!(holdlist_view_check, s, table.as_ptr(), table.len(), bucket).map(drop)
+}
+
+pub fn file_write(s: Settings, table: &[u16], out: &mut [u8]) -> Result<usize, Refusal> {
+    call!(
+        holdlist_file_write,
+        s,
+        table.as_ptr(),
+        table.len(),
+        out.as_mut_ptr(),
+        out.len()
+    )
+}
+
+pub fn file_read(bytes: &[u8], table: &mut [u16]) -> Result<Settings, Refusal> {
+    let mut settings = [0; 4];
+    // SAFETY: as the module says
+    told(unsafe {
+        c::holdlist_file_read(
+            bytes.as_ptr(),
+            bytes.len(),
+            table.as_mut_ptr(),
+            table.len(),
+            settings.as_mut_ptr(),
+        )
+    })?;
+    let [rule, width, buckets, mask] = settings;
+    Ok(Settings {
+        rule,
+        width,
+        buckets,
+        mask,
+    })
+}
+
+pub fn packed_write(s: Settings, table: &[u16], out: &mut [u8]) -> Result<usize, Refusal> {
+    call!(
+        holdlist_packed_write,
+        s,
+        table.as_ptr(),
+        table.len(),
+        out.as_mut_ptr(),
+        out.len()
+    )
+}
+
+pub fn packed_read(s: Settings, bytes: &[u8], table: &mut [u16]) -> Result<usize, Refusal> {
+    call!(
+        holdlist_packed_read,
+        s,
+        bytes.as_ptr(),
+        bytes.len(),
+        table.as_mut_ptr(),
+        table.len()
+    )
+}
+
+/// What no call of a `HoldList` can meet: buffers of wrong sizes, cells that are too large, and
+/// null pointers.
+#[cfg(test)]
+mod tests {
+    use super::*;
+    use std::ptr::{null, null_mut};
+
+    const S: Settings = Settings::plain(4, 1);
+
+    #[test]
+    fn a_table_of_another_size_is_refused_with_5() {
+        let mut table = [7u16; 5];
+        let mut scratch = [3u32; 2];
+        let mut out = [9u8; 20];
+        assert_eq!(clear(S, &mut table), Err(Refusal::Table));
+        assert_eq!(lookup(S, &table, b"a"), Err(Refusal::Table));
+        assert_eq!(release(S, &mut table, b"a"), Err(Refusal::Table));
+        assert_eq!(hold(S, &mut table, &mut scratch, b"a"), Err(Refusal::Table));
+        assert_eq!(view_check(S, &table, 0), Err(Refusal::Table));
+        assert_eq!(file_write(S, &table, &mut out), Err(Refusal::Table));
+        assert_eq!(packed_write(S, &table, &mut out), Err(Refusal::Table));
+        assert_eq!(packed_read(S, &[0x33, 0], &mut table), Err(Refusal::Table));
+        assert_eq!(file_read(&[6, 4, 0, 0, 0], &mut table), Err(Refusal::Table));
+        assert_eq!((table, scratch, out), ([7; 5], [3; 2], [9; 20]));
+    }
+
+    #[test]
+    fn settings_are_checked_before_the_table() {
+        let bad = Settings::plain(3, 1);
+        assert_eq!(clear(bad, &mut []), Err(Refusal::Width));
+        assert_eq!(lookup(bad, &[], b""), Err(Refusal::Width));
+        assert_eq!(packed_read(bad, &[], &mut []), Err(Refusal::Width));
+    }
+
+    #[test]
+    fn short_scratch_is_refused_with_6_before_a_bad_tag() {
+        let mut table = [0u16; 4];
+        let mut scratch = [3u32; 1];
+        assert_eq!(
+            hold(S, &mut table, &mut scratch, b""),
+            Err(Refusal::Scratch)
+        );
+        assert_eq!((table, scratch), ([0; 4], [3]));
+        // more than is needed passes
+        assert_eq!(hold(S, &mut table, &mut [3; 7], b"a"), Ok(0));
+    }
+
+    #[test]
+    fn scratch_stays_where_a_check_refuses() {
+        let mut table = [0u16; 4];
+        let mut scratch = [3u32; 2];
+        assert_eq!(
+            hold(S, &mut table, &mut scratch, &[0; 65]),
+            Err(Refusal::Tag)
+        );
+        assert_eq!(scratch, [3; 2]);
+    }
+
+    #[test]
+    fn a_cell_too_large_is_refused_with_17_before_a_short_output() {
+        let table = [0, 16, 0, 0];
+        let mut out = [9u8; 1];
+        assert_eq!(file_write(S, &table, &mut out), Err(Refusal::Cell));
+        assert_eq!(packed_write(S, &table, &mut out), Err(Refusal::Cell));
+        assert_eq!(out, [9]);
+    }
+
+    #[test]
+    fn a_short_output_is_refused_with_16() {
+        let table = [0, 9, 0, 3];
+        let mut out = [9u8; 8];
+        assert_eq!(file_write(S, &table, &mut out), Err(Refusal::Output));
+        assert_eq!(packed_write(S, &table, &mut out[..1]), Err(Refusal::Output));
+        assert_eq!(out, [9; 8]);
+    }
+
+    #[test]
+    fn later_bytes_of_an_output_keep_their_values() {
+        let table = [0, 9, 0, 3];
+        let mut out = [0xee; 12];
+        assert_eq!(file_write(S, &table, &mut out), Ok(9));
+        assert_eq!(out, [6, 4, 0, 0, 0x0a, 9, 0, 3, 0, 0xee, 0xee, 0xee]);
+        let mut out = [0xee; 4];
+        assert_eq!(packed_write(S, &table, &mut out), Ok(2));
+        assert_eq!(out, [0x33, 0, 0xee, 0xee]);
+    }
+
+    #[test]
+    fn a_refused_call_leaves_its_four_places() {
+        let mut out = [8; 4];
+        assert_eq!(candidates(S, 5, 1, &mut out), Err(Refusal::Bucket));
+        assert_eq!(out, [8; 4]);
+        assert_eq!(candidates(Settings::plain(12, 8), 5, 1, &mut out), Ok(2));
+        assert_eq!((out[0], out[2], out[3]), (1, 0, 0));
+        let mut settings = [8; 4];
+        let mut table = [1u16; 4];
+        // SAFETY: as the module says
+        let r = unsafe {
+            c::holdlist_file_read(
+                [6, 4, 0].as_ptr(),
+                3,
+                table.as_mut_ptr(),
+                4,
+                settings.as_mut_ptr(),
+            )
+        };
+        assert_eq!((r, settings, table), (-11, [8; 4], [1; 4]));
+    }
+
+    #[test]
+    fn a_null_pointer_with_count_0_is_an_empty_buffer() {
+        // SAFETY: a null pointer with count 0 is an empty buffer
+        unsafe {
+            assert_eq!(c::holdlist_fingerprint(0, 12, 8, 0, null(), 0), -7);
+            assert_eq!(c::holdlist_home(0, 12, 8, 0, null(), 0), -7);
+            assert_eq!(c::holdlist_clear(0, 12, 8, 0, null_mut(), 0), -5);
+            assert_eq!(c::holdlist_lookup(0, 12, 8, 0, null(), 0, null(), 0), -5);
+            assert_eq!(
+                c::holdlist_release(0, 12, 8, 0, null_mut(), 0, null(), 0),
+                -5
+            );
+            assert_eq!(
+                c::holdlist_hold(0, 12, 8, 0, null_mut(), 0, null_mut(), 0, null(), 0),
+                -5
+            );
+            assert_eq!(c::holdlist_view_check(0, 12, 8, 0, null(), 0, 0), -5);
+            assert_eq!(
+                c::holdlist_file_write(0, 12, 8, 0, null(), 0, null_mut(), 0),
+                -5
+            );
+            assert_eq!(
+                c::holdlist_file_read(null(), 0, null_mut(), 0, [0; 4].as_mut_ptr()),
+                -11
+            );
+            assert_eq!(
+                c::holdlist_packed_write(0, 12, 8, 0, null(), 0, null_mut(), 0),
+                -5
+            );
+            assert_eq!(
+                c::holdlist_packed_read(0, 12, 8, 0, null(), 0, null_mut(), 0),
+                -5
+            );
+            let mut table = [0u16; 4];
+            assert_eq!(
+                c::holdlist_lookup(0, 4, 1, 0, table.as_ptr(), 4, null(), 0),
+                -7
+            );
+            assert_eq!(
+                c::holdlist_hold(0, 4, 1, 0, table.as_mut_ptr(), 4, null_mut(), 0, null(), 0),
+                -6
+            );
+            assert_eq!(
+                c::holdlist_file_write(0, 4, 1, 0, table.as_ptr(), 4, null_mut(), 0),
+                -16
+            );
+            assert_eq!(
+                c::holdlist_packed_write(0, 4, 1, 0, table.as_ptr(), 4, null_mut(), 0),
+                -16
+            );
+            assert_eq!(
+                c::holdlist_packed_read(0, 4, 1, 0, null(), 0, table.as_mut_ptr(), 4),
+                -11
+            );
+        }
+    }
+}

@@ -1,0 +1,444 @@
+//! The list as its users see it. What only the boundary itself can meet is tested in `src/raw.rs`.
+
+use holdlist::{HoldList, Refusal, Settings};
+
+/// The number first: what follows it spreads its digits over the hash.
+fn tag(i: usize) -> String {
+    format!("{i} at the gate")
+}
+
+/// A list with so many tags, all of which find room.
+fn list_of(settings: Settings, tags: usize) -> HoldList {
+    let mut list = HoldList::new(settings).unwrap();
+    for i in 0..tags {
+        list.hold(tag(i)).unwrap();
+    }
+    list
+}
+
+/// As many of the tags as the list takes, and how many those are.
+fn filled(settings: Settings) -> (HoldList, usize) {
+    let mut list = HoldList::new(settings).unwrap();
+    for i in 0.. {
+        match list.hold(tag(i)) {
+            Ok(_) => {}
+            Err(refusal) => {
+                assert_eq!(refusal, Refusal::Full);
+                return (list, i);
+            }
+        }
+    }
+    unreachable!()
+}
+
+fn finds_all(list: &HoldList, tags: usize) -> bool {
+    (0..tags).all(|i| list.lookup(tag(i)).unwrap())
+}
+
+// ── refusals ──
+
+#[test]
+fn every_refusal_has_its_number_and_says_what_it_means() {
+    let numbers: Vec<u8> = Refusal::ALL.iter().map(|r| r.number()).collect();
+    assert_eq!(numbers, (1..=9).chain(11..=20).collect::<Vec<u8>>());
+    for refusal in Refusal::ALL {
+        assert_eq!(Refusal::from_number(refusal.number()), Some(refusal));
+        let says = refusal.to_string();
+        assert_eq!(
+            says,
+            format!("refused with {}: {}", refusal.number(), refusal.meaning())
+        );
+        assert!(refusal.meaning().len() > 10);
+    }
+    for number in [0, 10, 21, 255] {
+        assert_eq!(Refusal::from_number(number), None);
+    }
+    let error: Box<dyn std::error::Error> = Box::new(Refusal::Tag);
+    assert_eq!(
+        error.to_string(),
+        "refused with 7: the tag has no byte or more than 64"
+    );
+}
+
+#[test]
+fn settings_are_refused_with_1_to_4_in_this_order() {
+    let settings = |rule, width, buckets, mask| Settings {
+        rule,
+        width,
+        buckets,
+        mask,
+    };
+    let cases = [
+        (settings(3, 3, 0, 1), Refusal::Rule),
+        (settings(u32::MAX, 12, 8, 0), Refusal::Rule),
+        (settings(0, 3, 0, 1), Refusal::Width),
+        (settings(0, 17, 8, 0), Refusal::Width),
+        (settings(0, 12, 0, 1), Refusal::Buckets),
+        (settings(0, 12, 6, 0), Refusal::Buckets),
+        (settings(1, 12, 7, 1), Refusal::Buckets),
+        (settings(2, 12, 6, 0), Refusal::Buckets),
+        (settings(0, 12, 65_537, 0), Refusal::Buckets),
+        (settings(1, 12, 65_538, 0), Refusal::Buckets),
+        (settings(2, 12, 131_072, 0), Refusal::Buckets),
+        (settings(1, 12, u32::MAX - 1, 0), Refusal::Buckets),
+        (settings(0, 12, 8, 1), Refusal::Mask),
+        (settings(1, 12, 6, 1), Refusal::Mask),
+        (settings(2, 12, 8, 8), Refusal::Mask),
+    ];
+    for (s, refusal) in cases {
+        assert_eq!(s.check(), Err(refusal), "{s:?}");
+        assert_eq!(HoldList::new(s), Err(refusal), "{s:?}");
+        assert_eq!(HoldList::unpack(s, &[]), Err(refusal), "{s:?}");
+        assert_eq!(s.fingerprint(""), Err(refusal), "{s:?}");
+        assert_eq!(s.home(""), Err(refusal), "{s:?}");
+        assert_eq!(s.offset(0), Err(refusal), "{s:?}");
+        assert_eq!(s.candidates(0, u32::MAX), Err(refusal), "{s:?}");
+    }
+    let good = [
+        (0, 4, 1, 0),
+        (0, 16, 65_536, 0),
+        (1, 12, 2, 0),
+        (1, 12, 6, 0),
+        (2, 12, 1, 0),
+        (2, 12, 16, 15),
+    ];
+    for (rule, width, buckets, mask) in good {
+        assert_eq!(settings(rule, width, buckets, mask).check(), Ok(()));
+    }
+}
+
+#[test]
+fn a_tag_of_bad_length_is_refused_with_7() {
+    let mut list = list_of(Settings::default(), 10);
+    let before = list.clone();
+    for bad in [vec![], vec![1; 65], vec![1; 1000]] {
+        assert_eq!(list.hold(&bad), Err(Refusal::Tag));
+        assert_eq!(list.lookup(&bad), Err(Refusal::Tag));
+        assert_eq!(list.release(&bad), Err(Refusal::Tag));
+        assert_eq!(list.settings().fingerprint(&bad), Err(Refusal::Tag));
+        assert_eq!(list.settings().home(&bad), Err(Refusal::Tag));
+    }
+    assert_eq!(list, before);
+    assert_eq!(list.len(), 10);
+    for good in [vec![0; 1], vec![0; 64]] {
+        assert_eq!(list.hold(&good), Ok(0));
+        assert_eq!(list.lookup(&good), Ok(true));
+        assert_eq!(list.release(&good), Ok(true));
+    }
+    assert_eq!(list, before);
+}
+
+#[test]
+fn a_bucket_that_is_not_there_is_refused_with_8() {
+    for s in [
+        Settings::plain(12, 8),
+        Settings::ring(12, 10),
+        Settings::masked(12, 16, 12),
+    ] {
+        let list = list_of(s, 5);
+        for b in 0..s.buckets {
+            let at = 4 * b as usize;
+            assert_eq!(list.view(b), Ok(&list.cells()[at..at + 4]));
+            assert_eq!(s.candidates(1, b).unwrap()[0], b);
+        }
+        for b in [s.buckets, s.buckets + 1, u32::MAX] {
+            assert_eq!(list.view(b), Err(Refusal::Bucket));
+            assert_eq!(s.candidates(1, b), Err(Refusal::Bucket));
+        }
+    }
+}
+
+#[test]
+fn a_full_list_is_refused_with_9_and_stays() {
+    for s in [Settings::plain(12, 1), Settings::ring(12, 2)] {
+        let room = 4 * s.buckets as usize;
+        let mut list = HoldList::new(s).unwrap();
+        for _ in 0..room {
+            list.hold("ewe").unwrap();
+        }
+        let before = list.clone();
+        assert_eq!(list.hold("ewe"), Err(Refusal::Full));
+        assert_eq!((list.len(), list.stats().load), (room, 1.0));
+        assert_eq!(list, before);
+        assert_eq!(list.release("ewe"), Ok(true));
+        assert_eq!(list.hold("ewe"), Ok(0));
+    }
+}
+
+#[test]
+fn a_damaged_hold_file_is_refused_with_its_number() {
+    use Refusal::*;
+    let cases: [(&[u8], Refusal); 24] = [
+        (&[], Short),
+        (&[0x10], Map), // a map bit above 3
+        (&[0xf6, 4, 0, 0, 0], Map),
+        (&[0x07], Short),                 // the rule
+        (&[0x06, 4], Short),              // the bucket count
+        (&[0x06, 4, 0], Short),           // its second byte
+        (&[0x0f, 2, 4, 0, 0, 0], Short),  // the mask's second byte
+        (&[0x05, 0, 0, 0, 0], Map),       // rule 0 is the default
+        (&[0x06, 12, 0, 0, 0], Map),      // so is width 12
+        (&[0x06, 4, 0xff, 0x0f, 0], Map), // and 4096 buckets
+        (&[0x0e, 4, 0, 0, 0, 0, 0], Map), // a mask under rule 0
+        (&[0x07, 2, 4, 0, 0, 0], Map),    // none under rule 2
+        (&[0x07, 3, 4, 0, 0, 0], Rule),
+        (&[0x06, 3, 0, 0, 0], Width),
+        (&[0x06, 4, 2, 0, 0, 0, 0], Buckets), // three
+        (&[0x07, 1, 4, 2, 0, 0, 0, 0], Buckets),
+        (&[0x0f, 2, 4, 0, 0, 1, 0, 0], Mask),
+        (&[0x06, 4, 0, 0], Short),          // the bucket's byte
+        (&[0x06, 4, 0, 0, 0x01, 9], Short), // half a fingerprint
+        (&[0x06, 4, 1, 0, 0x00], Short),    // the second bucket
+        (&[0x06, 4, 0, 0, 0x10], BucketByte),
+        (&[0x06, 4, 0, 0, 0x01, 0, 0], Fingerprint),
+        (&[0x06, 4, 0, 0, 0x01, 16, 0], Fingerprint),
+        (&[0x06, 4, 0, 0, 0x00, 0], LeftOver),
+    ];
+    for (bytes, refusal) in cases {
+        assert_eq!(HoldList::load(bytes), Err(refusal), "{bytes:02x?}");
+    }
+}
+
+#[test]
+fn a_damaged_packed_form_is_refused_with_its_number() {
+    use Refusal::*;
+    let four = Settings::plain(4, 1);
+    let five = Settings::plain(5, 1);
+    let cases: [(Settings, &[u8], Refusal); 6] = [
+        (four, &[0x33], Short),
+        (four, &[0x33, 0, 0], LeftOver),
+        (four, &[0x24, 0x0f], Row),   // row 3876
+        (four, &[0xff, 0xff], Row),   // a bad row before a filling bit
+        (five, &[0x00, 0x10], Order), // 1, 0, 0, 0
+        (four, &[0x33, 0x10], Filling),
+    ];
+    for (s, bytes, refusal) in cases {
+        assert_eq!(HoldList::unpack(s, bytes), Err(refusal), "{bytes:02x?}");
+    }
+    assert_eq!(
+        HoldList::unpack(four, &[0x23, 0x0f]).unwrap().cells(),
+        [15; 4]
+    );
+}
+
+// ── the rules ──
+
+/// A fingerprint of the list's width with this offset.
+fn with_offset(s: Settings, d: u32) -> u16 {
+    (0..u16::MAX).find(|&p| s.offset(p).unwrap() == d).unwrap()
+}
+
+#[test]
+fn candidates_are_those_of_the_worked_examples() {
+    let plain = Settings::plain(12, 8);
+    assert_eq!(plain.candidates(with_offset(plain, 5), 6).unwrap(), [6, 3]);
+    assert_eq!(plain.candidates(with_offset(plain, 3), 4).unwrap(), [4, 7]);
+    let ring = Settings::ring(12, 10);
+    assert_eq!(ring.candidates(with_offset(ring, 4), 3).unwrap(), [3, 7]);
+    assert_eq!(ring.candidates(with_offset(ring, 4), 7).unwrap(), [7, 3]);
+    let masked = Settings::masked(12, 16, 12);
+    assert_eq!(
+        masked.candidates(with_offset(masked, 13), 6).unwrap(),
+        [6, 10, 7, 11]
+    );
+    assert_eq!(
+        masked.candidates(with_offset(masked, 13), 10).unwrap(),
+        [10, 6, 11, 7]
+    );
+}
+
+#[test]
+fn pairs_meet_across_the_join_of_the_ring() {
+    for half in [1, 2, 5, 7] {
+        let s = Settings::ring(12, 2 * half);
+        for d in 0..half {
+            let p = with_offset(s, d);
+            for b in 0..half {
+                // d ahead in the other block, and past its end from its start on again
+                let other = half + (b + d) % half;
+                assert_eq!(s.candidates(p, b).unwrap(), [b, other]);
+                assert_eq!(s.candidates(p, other).unwrap(), [other, b]);
+            }
+        }
+    }
+}
+
+#[test]
+fn relocations_across_the_join_lose_nothing() {
+    for buckets in [2, 6, 10, 50, 1000] {
+        let s = Settings::ring(12, buckets);
+        let (mut list, held) = filled(s);
+        assert!(finds_all(&list, held));
+        assert_eq!(list.len(), held);
+        if buckets > 2 {
+            assert!(list.stats().longest > 0, "{buckets} buckets");
+        }
+        // every entry lies in its home bucket or across the ring from it
+        for i in 0..held {
+            let (p, home) = (s.fingerprint(tag(i)).unwrap(), s.home(tag(i)).unwrap());
+            assert!(home < buckets / 2);
+            let places = s.candidates(p, home).unwrap();
+            assert!(places.iter().any(|&b| list.view(b).unwrap().contains(&p)));
+        }
+        for i in 0..held {
+            assert_eq!(list.release(tag(i)), Ok(true));
+        }
+        assert!(list.is_empty() && list.cells().iter().all(|&c| c == 0));
+    }
+}
+
+// ── saving and reading back ──
+
+#[test]
+fn a_saved_list_is_read_back() {
+    let all = [
+        Settings::default(),
+        Settings::plain(4, 1),
+        Settings::plain(16, 64),
+        Settings::ring(12, 10),
+        Settings::ring(5, 4096),
+        Settings::masked(9, 32, 21),
+        Settings::masked(12, 4096, 0),
+        Settings::masked(12, 4096, 4095),
+    ];
+    for s in all {
+        for tags in [0, 1, s.buckets as usize * 2] {
+            let list = list_of(s, tags);
+            let bytes = list.save();
+            let copy = HoldList::load(&bytes).unwrap();
+            assert_eq!(copy, list, "{s:?}");
+            assert_eq!((copy.len(), copy.settings()), (tags, s));
+            assert_eq!(copy.save(), bytes);
+            // a file that ends anywhere else is refused
+            assert_eq!(
+                HoldList::load(&bytes[..bytes.len() - 1]),
+                Err(Refusal::Short)
+            );
+            let longer = [&bytes[..], &[0]].concat();
+            assert_eq!(HoldList::load(&longer), Err(Refusal::LeftOver));
+        }
+    }
+}
+
+#[test]
+fn a_packed_list_is_read_back_with_its_buckets_sorted() {
+    for width in 4..=16 {
+        for s in [
+            Settings::plain(width, 1),
+            Settings::plain(width, 32),
+            Settings::ring(width, 10),
+            Settings::masked(width, 16, 3),
+        ] {
+            let list = list_of(s, s.buckets as usize * 2);
+            let bytes = list.pack();
+            assert_eq!(
+                bytes.len(),
+                (4 * (width as usize - 1) * s.buckets as usize + 7) / 8
+            );
+            let copy = HoldList::unpack(s, &bytes).unwrap();
+            assert_eq!(copy.len(), list.len());
+            assert!(finds_all(&copy, list.len()));
+            for b in 0..s.buckets {
+                let mut cells = list.view(b).unwrap().to_vec();
+                cells.sort_unstable();
+                assert_eq!(copy.view(b).unwrap(), cells);
+            }
+            assert_eq!(copy.pack(), bytes);
+        }
+    }
+}
+
+#[test]
+fn a_list_goes_on_after_it_is_read_back() {
+    let mut list = list_of(Settings::ring(12, 100), 300);
+    let mut copy = HoldList::load(&list.save()).unwrap();
+    for i in 300..390 {
+        assert_eq!(list.hold(tag(i)), copy.hold(tag(i)));
+    }
+    for i in (0..390).step_by(3) {
+        assert_eq!(list.release(tag(i)), copy.release(tag(i)));
+    }
+    assert_eq!(list, copy);
+    assert_eq!(list.len(), copy.len());
+}
+
+// ── sizes at the limit ──
+
+#[test]
+fn lists_of_the_largest_sizes_work() {
+    for s in [
+        Settings::plain(16, 65_536),
+        Settings::ring(16, 65_536),
+        Settings::ring(16, 65_534),
+        Settings::masked(16, 65_536, 0xff00),
+    ] {
+        let tags = 4 * s.buckets as usize * 9 / 10;
+        let mut list = list_of(s, tags);
+        assert!(finds_all(&list, tags));
+        assert_eq!(list.len(), tags);
+        assert_eq!(list.cells().len(), 4 * s.buckets as usize);
+        assert!(list.view(s.buckets - 1).is_ok());
+        assert_eq!(list.view(s.buckets), Err(Refusal::Bucket));
+
+        let bytes = list.save();
+        assert_eq!(HoldList::load(&bytes).unwrap(), list);
+        let packed = list.pack();
+        let copy = HoldList::unpack(s, &packed).unwrap();
+        assert_eq!(copy.len(), tags);
+        assert!(finds_all(&copy, tags));
+
+        for i in 0..tags {
+            assert_eq!(list.release(tag(i)), Ok(true));
+        }
+        assert!(list.is_empty());
+        assert_eq!(list.save().len(), bytes.len() - 2 * tags);
+    }
+}
+
+// ── the list itself ──
+
+#[test]
+fn counts_are_those_of_the_cells() {
+    let mut list = HoldList::new(Settings::masked(8, 16, 5)).unwrap();
+    let count = |l: &HoldList| l.cells().iter().filter(|&&c| c != 0).count();
+    for i in 0..200 {
+        let _ = list.hold(tag(i % 70));
+        assert_eq!(list.len(), count(&list));
+        if i % 3 == 0 {
+            let _ = list.release(tag(i / 2));
+            assert_eq!(list.len(), count(&list));
+        }
+    }
+    assert_eq!(list.stats().load, list.len() as f64 / 64.0);
+    list.clear();
+    assert_eq!((list.len(), count(&list), list.stats().longest), (0, 0, 0));
+}
+
+#[test]
+fn a_tag_may_be_held_twice() {
+    let mut list = HoldList::default();
+    list.hold("ewe").unwrap();
+    list.hold(b"ewe").unwrap();
+    assert_eq!(list.len(), 2);
+    assert_eq!(list.release("ewe"), Ok(true));
+    assert_eq!(list.lookup("ewe"), Ok(true));
+    assert_eq!(list.release("ewe"), Ok(true));
+    assert_eq!(list.release("ewe"), Ok(false));
+    assert_eq!(list.lookup("ewe"), Ok(false));
+}
+
+#[test]
+fn a_list_can_go_to_another_thread() {
+    let list = list_of(Settings::default(), 100);
+    let list = std::thread::spawn(move || {
+        assert!(finds_all(&list, 100));
+        list
+    })
+    .join()
+    .unwrap();
+    std::thread::scope(|scope| {
+        for _ in 0..2 {
+            scope.spawn(|| assert!(finds_all(&list, 100)));
+        }
+    });
+}

@@ -1,0 +1,273 @@
+//! The engine and the other implementation on the same inputs, in one run.
+//!
+//! Each measurement is taken several times, the two sides in turn, and the medians are printed with
+//! their ratio: below 1.00 the engine is faster. Both are optimised; the engine is called through
+//! the C boundary, the other implementation through functions that are not inlined.
+//!
+//!     rt staticlib holdlist
+//!     cargo run --release --offline --locked --manifest-path oracle/engine/Cargo.toml --bin benchmark
+
+use engine::boundary::Engine;
+use oracle::index::{Settings, MASKED, PLAIN, RING};
+use oracle::{holdfile, packed, table};
+use std::hint::black_box;
+use std::time::Instant;
+
+const ROUNDS: usize = 9;
+const WIDTH: u32 = 16;
+const ENGINE: Engine = Engine { null: false };
+
+/// One side: every call answers a number, below 0 for a refusal.
+#[derive(Clone, Copy)]
+enum Side {
+    Engine,
+    Other,
+}
+
+const SIDES: [Side; 2] = [Side::Engine, Side::Other];
+
+fn signed<T>(answer: Result<T, u32>, value: impl Fn(T) -> i64) -> i64 {
+    answer.map_or_else(|n| -i64::from(n), value)
+}
+
+impl Side {
+    #[inline(never)]
+    fn hold(self, s: Settings, cells: &mut [u16], scratch: &mut [u32], tag: &[u8]) -> i64 {
+        match self {
+            Side::Engine => ENGINE.hold(s, cells, scratch, tag),
+            Side::Other => signed(table::hold(s, cells, scratch, tag), i64::from),
+        }
+    }
+
+    #[inline(never)]
+    fn lookup(self, s: Settings, cells: &[u16], tag: &[u8]) -> i64 {
+        match self {
+            Side::Engine => ENGINE.lookup(s, cells, tag),
+            Side::Other => signed(table::lookup(s, cells, tag), i64::from),
+        }
+    }
+
+    #[inline(never)]
+    fn release(self, s: Settings, cells: &mut [u16], tag: &[u8]) -> i64 {
+        match self {
+            Side::Engine => ENGINE.release(s, cells, tag),
+            Side::Other => signed(table::release(s, cells, tag), i64::from),
+        }
+    }
+
+    #[inline(never)]
+    fn file_write(self, s: Settings, cells: &[u16], out: &mut [u8]) -> i64 {
+        match self {
+            Side::Engine => ENGINE.file_write(s, cells, out),
+            Side::Other => signed(holdfile::write(s, cells, out), |n| n as i64),
+        }
+    }
+
+    #[inline(never)]
+    fn file_read(self, bytes: &[u8], cells: &mut [u16]) -> i64 {
+        match self {
+            Side::Engine => ENGINE.file_read(bytes, cells, &mut [0; 4]),
+            Side::Other => signed(holdfile::read(bytes, cells), |_| 0),
+        }
+    }
+
+    #[inline(never)]
+    fn packed_write(self, s: Settings, cells: &[u16], out: &mut [u8]) -> i64 {
+        match self {
+            Side::Engine => ENGINE.packed_write(s, cells, out),
+            Side::Other => signed(packed::write(s, cells, out), |n| n as i64),
+        }
+    }
+
+    #[inline(never)]
+    fn packed_read(self, s: Settings, bytes: &[u8], cells: &mut [u16]) -> i64 {
+        match self {
+            Side::Engine => ENGINE.packed_read(s, bytes, cells),
+            Side::Other => signed(packed::read(s, bytes, cells), |n| n as i64),
+        }
+    }
+}
+
+/// Tags of twelve bytes, all different.
+fn tags(from: u64, count: usize) -> Vec<[u8; 12]> {
+    (from..from + count as u64)
+        .map(|i| {
+            let mut tag = *b"GB00........";
+            tag[4..].copy_from_slice(&i.wrapping_mul(0x9e37_79b9_7f4a_7c15).to_le_bytes());
+            tag
+        })
+        .collect()
+}
+
+/// Medians of nanoseconds, engine and other, over rounds in which the two take turns.
+fn measure(mut run: impl FnMut(Side) -> f64) -> [f64; 2] {
+    let mut times = [Vec::new(), Vec::new()];
+    for _ in 0..ROUNDS {
+        for side in SIDES {
+            times[side as usize].push(run(side));
+        }
+    }
+    times.map(|mut list| {
+        list.sort_by(f64::total_cmp);
+        list[ROUNDS / 2]
+    })
+}
+
+fn timed(work: impl FnOnce()) -> f64 {
+    let start = Instant::now();
+    work();
+    start.elapsed().as_nanos() as f64
+}
+
+fn row(name: &str, unit: &str, [engine, other]: [f64; 2], ratio: f64) {
+    println!("| {name} | {engine:.1} | {other:.1} | {unit} | {ratio:.2} |");
+}
+
+/// A time: the ratio is the engine's over the other's.
+fn time(name: &str, pair: [f64; 2]) {
+    row(name, "ns", pair, pair[0] / pair[1]);
+}
+
+/// A speed: the ratio is turned round, so that below 1.00 the engine is faster.
+fn speed(name: &str, bytes: usize, nanos: [f64; 2]) {
+    let pair = nanos.map(|ns| bytes as f64 / ns * 1_000.0);
+    row(name, "MB/s", pair, nanos[0] / nanos[1]);
+}
+
+/// A table filled from nothing to a share of its cells.
+fn filled(s: Settings, share: f64, list: &[[u8; 12]]) -> (Vec<u16>, Vec<u32>, usize) {
+    let mut cells = vec![0; 4 * s.buckets as usize];
+    let mut scratch = vec![0; 2 * s.buckets as usize];
+    let want = (cells.len() as f64 * share) as usize;
+    let held = list
+        .iter()
+        .take(want)
+        .take_while(|tag| Side::Other.hold(s, &mut cells, &mut scratch, *tag) >= 0)
+        .count();
+    (cells, scratch, held)
+}
+
+/// Nanoseconds for each hold from one load to another, or to the first refusal.
+fn holds(s: Settings, from: f64, to: f64, list: &[[u8; 12]]) -> [f64; 2] {
+    let (cells, scratch, start) = filled(s, from, list);
+    let end = (cells.len() as f64 * to) as usize;
+    measure(|side| {
+        let (mut cells, mut scratch) = (cells.clone(), scratch.clone());
+        let mut done = 0;
+        let nanos = timed(|| {
+            for tag in &list[start..end] {
+                done += 1;
+                if side.hold(s, &mut cells, &mut scratch, tag) < 0 {
+                    break;
+                }
+            }
+        });
+        nanos / f64::from(done)
+    })
+}
+
+fn table_rows(name: &str, s: Settings) {
+    let cells_in_all = 4 * s.buckets as usize;
+    let list = tags(1, 2 * cells_in_all);
+    let others = tags(1 << 40, 100_000);
+    time(
+        &format!("{name}, hold, empty to 50 %"),
+        holds(s, 0.0, 0.5, &list),
+    );
+    time(
+        &format!("{name}, hold, 50 to 90 %"),
+        holds(s, 0.5, 0.9, &list),
+    );
+    time(
+        &format!("{name}, hold, 90 to 95 %"),
+        holds(s, 0.9, 0.95, &list),
+    );
+    time(
+        &format!("{name}, hold, 95 % to the first 9"),
+        holds(s, 0.95, 1.5, &list),
+    );
+    let (cells, _, held) = filled(s, 0.95, &list);
+    let looked = |list: &[[u8; 12]]| {
+        measure(|side| {
+            let nanos = timed(|| {
+                for tag in list {
+                    black_box(side.lookup(s, &cells, tag));
+                }
+            });
+            nanos / list.len() as f64
+        })
+    };
+    time(
+        &format!("{name}, lookup, held"),
+        looked(&list[..held.min(100_000)]),
+    );
+    time(&format!("{name}, lookup, clear"), looked(&others));
+    let released = measure(|side| {
+        let mut cells = cells.clone();
+        let count = held.min(100_000);
+        let nanos = timed(|| {
+            for tag in &list[..count] {
+                black_box(side.release(s, &mut cells, tag));
+            }
+        });
+        nanos / count as f64
+    });
+    time(&format!("{name}, release"), released);
+}
+
+fn format_rows(s: Settings) {
+    let list = tags(1, 4 * s.buckets as usize);
+    let (cells, _, _) = filled(s, 0.95, &list);
+    let mut out = vec![0; 1 << 20];
+    let size = Side::Other.file_write(s, &cells, &mut out) as usize;
+    let file = out[..size].to_vec();
+    let written = measure(|side| {
+        timed(|| {
+            black_box(side.file_write(s, &cells, &mut out));
+        })
+    });
+    speed("hold file, write", size, written);
+    let mut table = cells.clone();
+    let read = measure(|side| {
+        timed(|| {
+            black_box(side.file_read(&file, &mut table));
+        })
+    });
+    speed("hold file, read", size, read);
+    let size = Side::Other.packed_write(s, &cells, &mut out) as usize;
+    let form = out[..size].to_vec();
+    let written = measure(|side| {
+        timed(|| {
+            black_box(side.packed_write(s, &cells, &mut out));
+        })
+    });
+    speed("packed form, write", size, written);
+    let read = measure(|side| {
+        timed(|| {
+            black_box(side.packed_read(s, &form, &mut table));
+        })
+    });
+    speed("packed form, read", size, read);
+}
+
+fn main() {
+    println!("| What | Engine | Other | Unit | Ratio |");
+    println!("|---|---|---|---|---|");
+    for (name, rule, buckets, mask) in [
+        ("plain, 65,536", PLAIN, 65_536, 0),
+        ("ring, 65,536", RING, 65_536, 0),
+        ("ring, 65,534", RING, 65_534, 0),
+        ("masked, 65,536", MASKED, 65_536, 0x0ff0),
+    ] {
+        table_rows(name, Settings::new(rule, WIDTH, buckets, mask));
+    }
+    for buckets in [1_024, 4_096, 16_384, 65_536] {
+        let s = Settings::new(PLAIN, WIDTH, buckets, 0);
+        let list = tags(1, 4 * buckets as usize);
+        time(
+            &format!("plain, {buckets} buckets, hold, 85 to 90 %"),
+            holds(s, 0.85, 0.9, &list),
+        );
+    }
+    format_rows(Settings::new(PLAIN, WIDTH, 65_536, 0));
+}
