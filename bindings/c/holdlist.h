@@ -48,7 +48,7 @@ enum {
     HOLDLIST_REFUSED_BUCKET = 8,          /* there is no bucket of this number */
     HOLDLIST_REFUSED_FULL = 9,            /* the list has no room for the tag, however its entries are moved */
     HOLDLIST_REFUSED_SHORT = 11,          /* the bytes end early */
-    HOLDLIST_REFUSED_MAP = 12,            /* a map bit 4 to 7; a field that has its default; a mask that does not fit the rule */
+    HOLDLIST_REFUSED_MAP = 12,            /* a map bit 4 to 7; a field with its default; a mask against the rule */
     HOLDLIST_REFUSED_BUCKET_BYTE = 13,    /* a bucket's byte is above 15 */
     HOLDLIST_REFUSED_FINGERPRINT = 14,    /* a fingerprint is 0, or 2^width or more */
     HOLDLIST_REFUSED_LEFT_OVER = 15,      /* bytes are left over */
@@ -104,8 +104,8 @@ int64_t holdlist_clear(uint32_t rule, uint32_t width, uint32_t buckets, uint32_t
 
 /*
  * Looks a tag up. Answers 1 where it is held, 0 where it is clear. A tag that was held and not released is always
- * found; one that was never held is found where another with its fingerprint and candidates is held. Writes nothing.
- * Refuses with 1 to 4, 5, 7.
+ * found, as long as nothing is released that was not held. One that was never held is found where another with its
+ * fingerprint and candidates is held. Writes nothing. Refuses with 1 to 4, 5, 7.
  */
 int64_t holdlist_lookup(uint32_t rule, uint32_t width, uint32_t buckets, uint32_t mask,
                         const uint16_t *table, size_t table_count, const uint8_t *tag, size_t tag_count);
@@ -121,6 +121,8 @@ int64_t holdlist_release(uint32_t rule, uint32_t width, uint32_t buckets, uint32
 /*
  * Holds a tag. Answers how many other entries moved to make room, 0 for none; a tag that is held twice has two
  * entries. Writes the table, and scratch as it needs. Refuses with 1 to 4, 5, 6, 7, 9; at 9 the table is as before.
+ * Tags that spread well fill nine tenths of a large list and more before the first 9. Short tags that differ in
+ * their last bytes alone, such as "tag 1" and "tag 2", may not: the hash spreads a byte by the bytes after it.
  */
 int64_t holdlist_hold(uint32_t rule, uint32_t width, uint32_t buckets, uint32_t mask,
                       uint16_t *table, size_t table_count, uint32_t *scratch, size_t scratch_count,
