@@ -5,11 +5,11 @@ use mathlib.Core.Logic.{_⊎_, inl, inr, _≢_}
 use mathlib.Core.Bool.{Bool, true, false, cond, not, _||_}
 use mathlib.Core.Option.{Option, none, some}
 use Prim.Native.Nat.{ℕ, zero, suc, _+_, _*_, _-_, _/_, _%_, _^_, _≤_, _<_}
-use native.Mathlib.Nat.{pos-of-ne-zero}
+use native.Mathlib.Nat.{pos-of-ne-zero, mod-lt}
 use native.Mathlib.Decide.{decLe, ℕ-discrete}
 use native.Mathlib.Omega.{arith}
 use borrow.Author.Tests.{ltb-false, leb-false, eqb-true, eqb-false, not-false, eq-eqb}
-use lib.Bits.{bitAnd}
+use lib.Bits.{bitAnd, and-mask}
 use lib.Dec.{eqb, leb, ltb}
 use lib.Pow.{pow-pos, pow-mono}
 use Rattle.lemmas.proofs.Bools.{or-false-left, or-false-right, cond-none}
@@ -80,6 +80,25 @@ pub by-xor : {A : Type 0} (r : ℕ) (x y : A) → r ≢ 1 → byRule r x y x ≡
 by-xor zero x y m = refl
 by-xor (suc zero) x y m = absurd (m refl)
 by-xor (suc (suc r)) x y m = refl
+
+pub by-pair : {A : Type 0} (r : ℕ) (x z : A) → r ≤ 1 → byRule r x x z ≡ x
+by-pair zero x z h = refl
+by-pair (suc zero) x z h = refl
+by-pair (suc (suc r)) x z h = absurd (omega arith)
+
+-- the test of the count's form: on the ring it looks at the lowest bit
+low-bit : (m : ℕ) → not (eqb (bitAnd m 1) 0) ≡ odd m
+low-bit m = ap (λ (x : ℕ). not (eqb x 0)) (and-mask m 1) ∙ go (m % 2) (mod-lt m (omega arith))
+  where
+    go : (x : ℕ) → x < 2 → not (eqb x 0) ≡ eqb x 1
+    go zero h = refl
+    go (suc zero) h = refl
+    go (suc (suc x)) h = absurd (omega arith)
+
+pub form-test : (r m : ℕ) → 0 < m → m ≤ 65536 → not (eqb (bitAnd m (byRule r (m - 1) 1 (m - 1))) 0) ≡ byRule r (not (powerOfTwo m)) (odd m) (not (powerOfTwo m))
+form-test zero m h l = ap not (power-test m h l)
+form-test (suc zero) m h l = low-bit m
+form-test (suc (suc r)) m h l = ap not (power-test m h l)
 
 power-of-good : (r m : ℕ) → byRule r (not (powerOfTwo m)) (odd m) (not (powerOfTwo m)) ≡ false → r ≢ 1 → (k : ℕ) × (m ≡ 2 ^ k)
 unfolding powerOfTwo

@@ -5,7 +5,7 @@ use mathlib.Core.Logic.{_≢_}
 use mathlib.Core.Bool.{Bool, true, false, cond, not, _||_}
 use mathlib.Core.Option.{Option, none, some}
 use mathlib.Core.List.{List, [], _∷_, _++_}
-use Prim.Native.Nat.{ℕ, zero, suc, _%_, _≤_, _<_}
+use Prim.Native.Nat.{ℕ, zero, suc, _≤_, _<_}
 use native.Mathlib.Omega.{arith}
 use borrow.Author.Tests.{lt-ltb, le-ltb, le-leb, lt-leb, eq-eqb, ne-eqb}
 use lib.Dec.{eqb, leb, ltb}
@@ -15,7 +15,6 @@ use Rattle.index.specs.Settings.{byRule, powerOfTwo, odd, settingsChecks
 use Rattle.index.specs.Hash.{tagChecks}
 use Rattle.index.specs.Candidates.{bucketChecks}
 use Rattle.index.specs.declared.Settings.{Settings}
-use Rattle.index.proofs.Good.{by-masked, by-xor}
 
 -- ── lists of checks ──
 pub first-none : (l m : List Check) → firstMet l ≡ none → firstMet (l ++ m) ≡ firstMet m
@@ -173,32 +172,18 @@ module _ (s : Settings) where
         pub is-none : overlong s ≡ false → 0 ≡ numberOf (settingsRefusal s)
         is-none e = outcome false false false false known fits formed e
 
-  -- the third and the fourth condition by the rule
-  pub ring-odd : s .rule ≡ 1 → s .buckets % 2 ≡ 1 → uneven s ≡ true
-  ring-odd r h = ap (λ (x : ℕ). byRule x (not (powerOfTwo (s .buckets))) (odd (s .buckets)) (not (powerOfTwo (s .buckets)))) r ∙ eq-eqb (s .buckets % 2) 1 h
+  -- the mask against its limit
+  from-one : (k : ℕ) → leb 1 k ≡ not (eqb k 0)
+  from-one zero = refl
+  from-one (suc k) = le-leb 1 (suc k) (omega arith) ∙ sym (ap not (ne-eqb (suc k) 0 (omega arith)))
 
-  pub ring-even : s .rule ≡ 1 → s .buckets % 2 ≢ 1 → uneven s ≡ false
-  ring-even r h = ap (λ (x : ℕ). byRule x (not (powerOfTwo (s .buckets))) (odd (s .buckets)) (not (powerOfTwo (s .buckets)))) r ∙ ne-eqb (s .buckets % 2) 1 h
+  limit-test : (r k m : ℕ) → leb (byRule r 1 1 m) k ≡ byRule r (not (eqb k 0)) (not (eqb k 0)) (leb m k)
+  limit-test zero k m = from-one k
+  limit-test (suc zero) k m = from-one k
+  limit-test (suc (suc r)) k m = refl
 
-  pub no-power : s .rule ≢ 1 → powerOfTwo (s .buckets) ≡ false → uneven s ≡ true
-  no-power r e = by-xor (s .rule) (not (powerOfTwo (s .buckets))) (odd (s .buckets)) r ∙ ap not e
+  pub mask-over : (n : ℕ) → n ≡ byRule (s .rule) 1 1 (s .buckets) → n ≤ s .mask → overlong s ≡ true
+  mask-over n e h = sym (limit-test (s .rule) (s .mask) (s .buckets)) ∙ ap (λ (x : ℕ). leb x (s .mask)) (sym e) ∙ le-leb n (s .mask) h
 
-  pub a-power : s .rule ≢ 1 → powerOfTwo (s .buckets) ≡ true → uneven s ≡ false
-  a-power r e = by-xor (s .rule) (not (powerOfTwo (s .buckets))) (odd (s .buckets)) r ∙ ap not e
-
-  by-two : (r : ℕ) → r ≤ 1 → byRule r (not (eqb (s .mask) 0)) (not (eqb (s .mask) 0)) (leb (s .buckets) (s .mask)) ≡ not (eqb (s .mask) 0)
-  by-two zero k = refl
-  by-two (suc zero) k = refl
-  by-two (suc (suc x)) k = absurd (omega arith)
-
-  pub some-mask : s .rule ≤ 1 → s .mask ≢ 0 → overlong s ≡ true
-  some-mask r h = by-two (s .rule) r ∙ ap not (ne-eqb (s .mask) 0 h)
-
-  pub no-mask : s .rule ≤ 1 → s .mask ≡ 0 → overlong s ≡ false
-  no-mask r h = by-two (s .rule) r ∙ ap not (eq-eqb (s .mask) 0 h)
-
-  pub large-mask : s .rule ≢ 0 → s .rule ≢ 1 → s .buckets ≤ s .mask → overlong s ≡ true
-  large-mask n r h = by-masked (s .rule) (not (eqb (s .mask) 0)) (not (eqb (s .mask) 0)) (leb (s .buckets) (s .mask)) n r ∙ le-leb (s .buckets) (s .mask) h
-
-  pub small-mask : s .rule ≢ 0 → s .rule ≢ 1 → s .mask < s .buckets → overlong s ≡ false
-  small-mask n r h = by-masked (s .rule) (not (eqb (s .mask) 0)) (not (eqb (s .mask) 0)) (leb (s .buckets) (s .mask)) n r ∙ lt-leb (s .buckets) (s .mask) h
+  pub mask-under : (n : ℕ) → n ≡ byRule (s .rule) 1 1 (s .buckets) → s .mask < n → overlong s ≡ false
+  mask-under n e h = sym (limit-test (s .rule) (s .mask) (s .buckets)) ∙ ap (λ (x : ℕ). leb x (s .mask)) (sym e) ∙ lt-leb n (s .mask) h

@@ -1,10 +1,11 @@
 // The index rules of a cuckoo filter: settings, hash, fingerprint, offset and candidates. The table
 // above relies on the laws of specs/Laws.antt and on nothing else.
 ghost use mathlib.Core.Path.{_≡_};
-ghost use Prim.Native.Nat.{_+_, _*_, _%_, _^_, _<_, _≤_};
+ghost use mathlib.Core.Bool.{not};
+ghost use Prim.Native.Nat.{_+_, _*_, _-_, _%_, _^_, _<_, _≤_};
 ghost use mathlib.Core.Option.{none};
 ghost use Rattle.index.specs.Checks.{numberOf};
-ghost use Rattle.index.specs.Settings.{defaultSettings, settingsRefusal, modulus, powerOfTwo};
+ghost use Rattle.index.specs.Settings.{byRule, defaultSettings, settingsRefusal, modulus, powerOfTwo, odd};
 ghost use Rattle.index.specs.Hash.{fnvStep, fnvPrime, fingerprintOf, fnv1a as hashOf};
 ghost use Rattle.index.specs.Candidates.{offset as offsetOf, across as acrossOf};
 ghost use Rattle.index.specs.Answers.{checkedIs, checkedSettings, tagEntryIs, entryOf, offsetIs, offsetAnswer, Lists, candidatesAnswer};
@@ -41,12 +42,30 @@ pub struct CandidateList {
     pub buckets: [u32; 4],
 }
 
-// Whether m is a power of two.
-fn is_power(m: u32) -> bool
-    requires { ⌜ (0 < m) × (m ≤ 65536) ⌝ }
-    ensures { λ r. ⌜ r ≡ powerOfTwo m ⌝ }
+// The bits that no count of the rule's form has: the lowest on the ring, where it is even, else those of
+// the number one below, as in no power of two.
+fn barred_bits(rule: u32, buckets: u32) -> u32
+    requires { ⌜ 0 < buckets ⌝ }
+    ensures { λ r. ⌜ r ≡ byRule rule (buckets - 1) 1 (buckets - 1) ⌝ }
 {
-    m & (m - 1) == 0
+    if rule == 1 { 1 } else { buckets - 1 }
+}
+
+// Whether the count has not the form that its rule asks.
+fn misshapen(rule: u32, buckets: u32) -> bool
+    requires { ⌜ (0 < buckets) × (buckets ≤ 65536) ⌝ }
+    ensures { λ r. ⌜ r ≡ byRule rule (not (powerOfTwo buckets)) (odd buckets) (not (powerOfTwo buckets)) ⌝ }
+{
+    let barred = barred_bits(rule, buckets);
+    buckets & barred != 0
+}
+
+// What the mask is below: the count under the masked rule, else 1, so that it is 0.
+fn mask_limit(rule: u32, buckets: u32) -> u32
+    requires { ⌜ rule ≤ 2 ⌝ }
+    ensures { λ r. ⌜ r ≡ byRule rule 1 1 buckets ⌝ }
+{
+    if rule == 2 { buckets } else { 1 }
 }
 
 impl Settings {
@@ -93,25 +112,11 @@ impl Settings {
         if buckets > 65536 {
             return 3;
         }
-        if rule == 1 {
-            if buckets % 2 == 1 {
-                return 3;
-            }
-            if mask != 0 {
-                return 4;
-            }
-            return 0;
-        }
-        if !is_power(buckets) {
+        if misshapen(rule, buckets) {
             return 3;
         }
-        if rule == 0 {
-            if mask != 0 {
-                return 4;
-            }
-            return 0;
-        }
-        if mask >= buckets {
+        let limit = mask_limit(rule, buckets);
+        if mask >= limit {
             return 4;
         }
         0
