@@ -9,16 +9,16 @@ use Prim.Native.Nat.{ℕ, zero, suc, _+_, _*_, _-_, _%_, _^_, _≤_, _<_}
 use native.Mathlib.Nat.{one-mul}
 use native.Mathlib.Numerals.{add-one}
 use native.Mathlib.Omega.{arith}
-use borrow.Author.Tests.{eq-eqb, ne-eqb}
+use borrow.Author.Tests.{eq-eqb, ne-eqb, leb-true, leb-false}
 use lib.Dec.{eqb, leb}
 use lib.ListN.{length, take, drop, getD, set, drop-of-length-le}
 use lib.Pow.{shl-exact}
-use lib.Seq.{drop-cons, take-add, drop-at, take-at, take-all, length-take-le}
+use lib.Seq.{drop-cons, sets-eq, take-add, drop-at, take-at, take-all, length-take-le}
 use Rattle.index.specs.Checks.{numberOf, refused, given}
 use Rattle.index.specs.declared.Settings.{Settings}
 use Rattle.table.specs.Calls.{clearRefusal}
 use Rattle.holdfile.specs.declared.Field.{Field}
-use Rattle.holdfile.specs.Parts.{fieldIs, endOf, Passed, cellsOf, Stored, afterBuckets, afterHeader, toldRead}
+use Rattle.holdfile.specs.Parts.{fieldIs, pairFrom, cellFrom, PrintAt, FullAt, endOf, Passed, cellsOf, Stored, afterBuckets, afterHeader, toldRead}
 use Rattle.holdfile.proofs.Refusals.{clear-passes, clear-number}
 use Rattle.holdfile.specs.Bytes.{bit0, bit1, bit2, bit3}
 use Rattle.holdfile.specs.Reader.{Parsed, stop, next, andThen, takeByte, takePair, field, refuseIf, misfit, settingsOf, readFields, readHeader, readCell, readCells, readBucket, readBuckets, ReadOut, leftOver, checked, readAll, readOut, readFile}
@@ -113,15 +113,6 @@ module _ (a b c d e : Bool) where
   pub misfit-4 : a ≡ false → b ≡ false → c ≡ false → d ≡ false → e ≡ (a || b || c || cond d (not e) e)
   misfit-4 h k m n = rw (h, k, m, n) refl
 
--- ── the cells of a bucket ──
-pub four-set : (l : List ℕ) (a b c d : ℕ) → length l ≡ 4 → set (set (set (set l 0 a) 1 b) 2 c) 3 d ≡ a ∷ b ∷ c ∷ d ∷ []
-four-set (x ∷ y ∷ z ∷ w ∷ []) a b c d e = refl
-four-set [] a b c d e = absurd (omega arith)
-four-set (x ∷ []) a b c d e = absurd (omega arith)
-four-set (x ∷ y ∷ []) a b c d e = absurd (omega arith)
-four-set (x ∷ y ∷ z ∷ []) a b c d e = absurd (omega arith)
-four-set (x ∷ y ∷ z ∷ w ∷ v ∷ l) a b c d e = absurd (omega arith)
-
 -- ── a bucket, one cell after the other ──
 abbrev pub unfitOf : ℕ → Bool → ℕ → Bool
 unfitOf w t v = t && (eqb v 0 || leb (2 ^ w) v)
@@ -175,6 +166,109 @@ pub bucket-opened : (w : ℕ) (l : List ℕ) → readBucket w l ≡ andThen (tak
 unfolding readBucket readCells
 bucket-opened w l = refl
 
+-- ── a bucket of four fingerprints ──
+pub print-taken : (w : ℕ) (l : List ℕ) (at v : ℕ) → at + 2 ≤ length l → v ≡ pairFrom l at → unfitOf w true v ≡ false → PrintAt w l at true
+print-taken w l at v h e u =
+    let h1 : at + 1 < length l = omega arith in
+    let n : at + 1 + 1 ≡ at + 2 = omega arith in
+    let fits : unfitOf w true (pairFrom l at) ≡ false = ap (unfitOf w true) (sym e) ∙ u in
+    ap (λ (p : Parsed ℕ). andThen p (λ x rest. refuseIf (eqb x 0 || leb (2 ^ w) x) 14 (next x rest))) (take-two l at h1)
+    ∙ ap (λ (b : Bool). refuseIf b 14 (next (pairFrom l at) (drop (at + 1 + 1) l))) fits
+    ∙ ap (λ (k : ℕ). next (pairFrom l at) (drop k l)) n
+
+print-then : {B : Type 0} (w : ℕ) (l : List ℕ) (at to : ℕ) (then : ℕ → List ℕ → Parsed B) → PrintAt w l at true → at + 2 ≡ to
+    → andThen (readCell w true (drop at l)) then ≡ then (pairFrom l at) (drop to l)
+print-then w l at to then p e = ap (λ (q : Parsed ℕ). andThen q then) p ∙ ap (λ (k : ℕ). then (pairFrom l at) (drop k l)) e
+
+pub full-taken : (w : ℕ) (l : List ℕ) (at : ℕ) → at + 9 ≤ length l → getD l at 0 ≡ 15 → PrintAt w l (at + 1) true → PrintAt w l (at + 3) true → PrintAt w l (at + 5) true
+    → (r : Bool) → PrintAt w l (at + 7) r → FullAt w l at r
+full-taken w l at h m a b c false d = tt
+full-taken w l at h m a b c true d = (
+  h,
+  ap endOf
+      (bucket-opened w (drop at l)
+      ∙ ap (λ (p : Parsed ℕ). andThen p (behindMarks w)) (take-byte l at (omega arith))
+      ∙ ap (λ (k : ℕ). behindMarks w k (drop (at + 1) l)) m
+      ∙ print-then w l (at + 1) (at + 3) (behind0 w 15) a (omega arith)
+      ∙ print-then w l (at + 3) (at + 5) (behind1 w 15 (pairFrom l (at + 1))) b (omega arith)
+      ∙ print-then w l (at + 5) (at + 7) (behind2 w 15 (pairFrom l (at + 1)) (pairFrom l (at + 3))) c (omega arith)
+      ∙ print-then w l (at + 7) (at + 9) (behind3 (pairFrom l (at + 1)) (pairFrom l (at + 3)) (pairFrom l (at + 5))) d (omega arith)),
+)
+
+-- ── a bucket that has passed ──
+stops-never : {p : Parsed (List ℕ)} {n : ℕ} → Passed p → p ≡ stop n → ⊥
+stops-never h e = subst Passed e h
+
+-- a whole that passes, and has come to a cell
+pub record Come (whole : Parsed (List ℕ)) (w : ℕ) (t : Bool) (l : List ℕ) (at : ℕ) (then : ℕ → List ℕ → Parsed (List ℕ)) : Type 0 where
+  pub is : whole ≡ andThen (readCell w t (drop at l)) then
+  pub within : at ≤ length l
+  pub passed : Passed whole
+
+module _ {whole : Parsed (List ℕ)} {w : ℕ} {t : Bool} {l : List ℕ} {at : ℕ} {then : ℕ → List ℕ → Parsed (List ℕ)} (k : Come whole w t l at then) where
+  -- the cell stands whole in the bytes
+  pub come-room : at + cond t 2 0 ≤ length l
+  come-room = go t (k .is)
+    where
+      go : (s : Bool) → whole ≡ andThen (readCell w s (drop at l)) then → at + cond s 2 0 ≤ length l
+      go false e = omega (arith, k .within)
+      go true e = decide (leb (at + 2) (length l)) refl
+        where
+          decide : (b : Bool) → leb (at + 2) (length l) ≡ b → at + 2 ≤ length l
+          decide true h = leb-true (at + 2) (length l) h
+          decide false h =
+              absurd (stops-never (k .passed) (e ∙ ap (λ (p : Parsed ℕ). andThen (andThen p (λ x rest. refuseIf (eqb x 0 || leb (2 ^ w) x) 14 (next x rest))) then) (no-two l at (omega (arith, leb-false (at + 2) (length l) h)))))
+
+  -- and its bytes are its value
+  pub come-on : {end : ℕ} → end ≡ at + cond t 2 0 → whole ≡ then (cellFrom l at t) (drop end l)
+  come-on {end} e = go t (k .is) come-room ∙ ap (λ (n : ℕ). then (cellFrom l at t) (drop n l)) (sym e)
+    where
+      go : (b : Bool) → whole ≡ andThen (readCell w b (drop at l)) then → at + cond b 2 0 ≤ length l → whole ≡ then (cellFrom l at b) (drop (at + cond b 2 0) l)
+      go false q h =
+          let z : at ≡ at + 0 = omega arith in
+          q ∙ ap (λ (n : ℕ). then 0 (drop n l)) z
+      go true q h = fit (unfitOf w true (pairFrom l at)) refl
+        where
+          opened : (b : Bool) → unfitOf w true (pairFrom l at) ≡ b → whole ≡ andThen (refuseIf b 14 (next (pairFrom l at) (drop (at + 1 + 1) l))) then
+          opened b u =
+              q
+              ∙ ap (λ (p : Parsed ℕ). andThen (andThen p (λ x rest. refuseIf (eqb x 0 || leb (2 ^ w) x) 14 (next x rest))) then) (take-two l at (omega arith))
+              ∙ ap (λ (c : Bool). andThen (refuseIf c 14 (next (pairFrom l at) (drop (at + 1 + 1) l))) then) u
+
+          fit : (b : Bool) → unfitOf w true (pairFrom l at) ≡ b → whole ≡ then (pairFrom l at) (drop (at + 2) l)
+          fit true u = absurd (stops-never (k .passed) (opened true u))
+          fit false u =
+              let n : at + 1 + 1 ≡ at + 2 = omega arith in
+              opened false u ∙ ap (λ (x : ℕ). then (pairFrom l at) (drop x l)) n
+
+  -- and the next cell is come to
+  pub come-next : {u : Bool} {more : ℕ → List ℕ → Parsed (List ℕ)} {end : ℕ} → end ≡ at + cond t 2 0
+      → ((rest : List ℕ) → then (cellFrom l at t) rest ≡ andThen (readCell w u rest) more) → Come whole w u l end more
+  come-next {u} {more} {end} e f = record { is = come-on e ∙ f (drop end l); within = omega (arith, come-room, e); passed = k .passed }
+
+-- the byte that marks the cells
+module _ (w : ℕ) (l : List ℕ) (at : ℕ) (h : Passed (readBucket w (drop at l))) where
+  pub marks-in : at < length l
+  marks-in = decide (leb (length l) at) refl
+    where
+      decide : (b : Bool) → leb (length l) at ≡ b → at < length l
+      decide true e = absurd (stops-never h (bucket-opened w (drop at l) ∙ ap (λ (p : Parsed ℕ). andThen p (behindMarks w)) (no-byte l at (leb-true (length l) at e))))
+      decide false e = leb-false (length l) at e
+
+  pub come-first : (m : ℕ) → m ≡ getD l at 0 → Come (readBucket w (drop at l)) w (bit0 m) l (at + 1) (behind0 w m)
+  come-first m e = record { is = low (leb 16 m) refl; within = omega (arith, marks-in); passed = h }
+    where
+      opened : (b : Bool) → leb 16 m ≡ b → readBucket w (drop at l) ≡ refuseIf b 13 (allCells w m (drop (at + 1) l))
+      opened b q =
+          bucket-opened w (drop at l)
+          ∙ ap (λ (p : Parsed ℕ). andThen p (behindMarks w)) (take-byte l at marks-in)
+          ∙ ap (λ (k : ℕ). behindMarks w k (drop (at + 1) l)) (sym e)
+          ∙ ap (λ (c : Bool). refuseIf c 13 (allCells w m (drop (at + 1) l))) q
+
+      low : (b : Bool) → leb 16 m ≡ b → readBucket w (drop at l) ≡ allCells w m (drop (at + 1) l)
+      low true q = absurd (stops-never h (opened true q))
+      low false q = opened false q
+
 -- ── buckets ──
 -- cells in front of what a reading gives
 abbrev pub joined : List ℕ → Parsed (List ℕ) → Parsed (List ℕ)
@@ -211,9 +305,24 @@ module _ (w n : ℕ) (l : List ℕ) (h : 0 < n) where
   pub bucket-stops : (k : ℕ) → readBucket w l ≡ stop k → readBuckets w n l ≡ stop k
   bucket-stops k e = one-more ∙ ap (λ (p : Parsed (List ℕ)). andThen p (λ four rest. joined four (readBuckets w (n - 1) rest))) e
 
-  -- the first pass: one bucket more
-  pub check-turn : (four rest : List ℕ) → readBucket w l ≡ next four rest → endOf (readBuckets w (n - 1) rest) ≡ endOf (readBuckets w n l)
-  check-turn four rest e = sym (ap endOf (bucket-then four rest e) ∙ end-joined four (readBuckets w (n - 1) rest))
+  -- the first pass: it stops, or has one bucket more
+  pub check-stops : (k : ℕ) → stop k ≡ endOf (readBucket w l) → readBuckets w n l ≡ stop k
+  check-stops k e = go (readBucket w l) refl e
+    where
+      go : (r : Parsed (List ℕ)) → readBucket w l ≡ r → stop k ≡ endOf r → readBuckets w n l ≡ stop k
+      go (stop m) q f =
+          let same : m ≡ k = cc in
+          bucket-stops m q ∙ ap stop same
+      go (next four rest) q f = absurd (let z : _≡_ {A = ℕ} 0 1 = cc in omega arith)
+
+  pub check-turn : (rest : List ℕ) → next tt rest ≡ endOf (readBucket w l) → endOf (readBuckets w (n - 1) rest) ≡ endOf (readBuckets w n l)
+  check-turn rest e = go (readBucket w l) refl e
+    where
+      go : (r : Parsed (List ℕ)) → readBucket w l ≡ r → next tt rest ≡ endOf r → endOf (readBuckets w (n - 1) rest) ≡ endOf (readBuckets w n l)
+      go (stop m) q f = absurd (let z : _≡_ {A = ℕ} 0 1 = cc in omega arith)
+      go (next four end) q f =
+          let same : rest ≡ end = cc in
+          ap (λ (x : List ℕ). endOf (readBuckets w (n - 1) x)) same ∙ sym (ap endOf (bucket-then four end q) ∙ end-joined four (readBuckets w (n - 1) end))
 
   -- the second pass meets no refusal
   pub passes-first : (front : List ℕ) → Passed (joined front (readBuckets w n l)) → Passed (readBucket w l)
@@ -241,16 +350,23 @@ store-end w left i l table all h e k =
     sym (ap cellsOf (sym e ∙ ap (joined (take i table)) (ap (λ (n : ℕ). readBuckets w n l) z ∙ none-more w l)) ∙ append-nil (take i table) ∙ take-all i table (omega arith))
 
 -- four cells put into the middle of the table
-pub stored : (w : ℕ) (l t : List ℕ) (at i end a b c d : ℕ) → i + 4 ≤ length t → readBucket w (drop at l) ≡ next (a ∷ b ∷ c ∷ d ∷ []) (drop end l)
-    → (part rest : List ℕ) → part ≡ a ∷ b ∷ c ∷ d ∷ [] → Stored w l t (take i t ++ (part ++ rest)) at i end
-stored w l t at i end a b c d h e part rest p = record {
-  bucket = e ∙ ap (λ (x : List ℕ). next x (drop end l)) (sym (ap (take 4) (drop-at (take i t) (part ++ rest) i (length-take-le i t (omega arith)) ∙ ap (λ (x : List ℕ). x ++ rest) p)));
-  front = take-at (take i t) (part ++ rest) i (length-take-le i t (omega arith));
-}
+four-set : (t : List ℕ) (i a b c d : ℕ) → i + 4 ≤ length t → set (set (set (set t i a) (i + 1) b) (i + 2) c) (i + 3) d ≡ take i t ++ ((a ∷ b ∷ c ∷ d ∷ []) ++ drop (i + 4) t)
+four-set t i a b c d h =
+    let e1 : i + 1 ≡ suc i = omega arith in
+    let e2 : i + 2 ≡ suc (suc i) = omega arith in
+    let e3 : i + 3 ≡ suc (suc (suc i)) = omega arith in
+    rw (e1, e2, e3) (sets-eq (a ∷ b ∷ c ∷ d ∷ []) t i h ∙ append-assoc (take i t) (a ∷ b ∷ c ∷ d ∷ []) (drop (i + 4) t))
 
-pub never-stops : (p : Parsed (List ℕ)) (n : ℕ) → Passed p → stop n ≡ p → ⊥
-never-stops (stop m) n h e = h
-never-stops (next c end) n h e = let z : _≡_ {A = ℕ} 0 1 = cc in omega arith
+pub stored : (w : ℕ) (l t : List ℕ) (at i end a b c d : ℕ) → i + 4 ≤ length t → readBucket w (drop at l) ≡ next (a ∷ b ∷ c ∷ d ∷ []) (drop end l)
+    → (t1 t2 t3 t4 : List ℕ) → t1 ≡ set t i a → t2 ≡ set t1 (i + 1) b → t3 ≡ set t2 (i + 2) c → t4 ≡ set t3 (i + 3) d → Stored w l t t4 at i end
+stored w l t at i end a b c d h e t1 t2 t3 t4 e1 e2 e3 e4 =
+    let m = length-take-le i t (omega arith) in
+    let all : t4 ≡ take i t ++ ((a ∷ b ∷ c ∷ d ∷ []) ++ drop (i + 4) t) =
+    e4 ∙ ap (λ (x : List ℕ). set x (i + 3) d) (e3 ∙ ap (λ (x : List ℕ). set x (i + 2) c) (e2 ∙ ap (λ (x : List ℕ). set x (i + 1) b) e1)) ∙ four-set t i a b c d h in
+    record {
+      bucket = e ∙ ap (λ (x : List ℕ). next x (drop end l)) (sym (ap (λ (x : List ℕ). take 4 (drop i x)) all ∙ ap (take 4) (drop-at (take i t) ((a ∷ b ∷ c ∷ d ∷ []) ++ drop (i + 4) t) i m)));
+      front = ap (take i) all ∙ take-at (take i t) ((a ∷ b ∷ c ∷ d ∷ []) ++ drop (i + 4) t) i m;
+    }
 
 -- ── what stands behind the header ──
 pub passed-of : (p : Parsed (List ℕ)) (rest : List ℕ) → next tt rest ≡ endOf p → Passed p

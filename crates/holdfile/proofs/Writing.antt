@@ -8,7 +8,7 @@ use mathlib.Core.List.{List, [], _∷_, _++_, append-assoc, append-nil}
 use Prim.Native.Nat.{ℕ, zero, suc, _+_, _*_, _-_, _^_, _%_, _≤_, _<_}
 use native.Mathlib.Numerals.{add-one}
 use native.Mathlib.Omega.{arith}
-use borrow.Author.Tests.{eqb-true, le-leb, lt-leb}
+use borrow.Author.Tests.{eqb-true, le-leb, leb-true, leb-false}
 use lib.Dec.{leb}
 use lib.ListN.{length, drop, getD, set, length-append, drop-of-length-le}
 use lib.Seq.{sets, sets-eq, length-sets, drop-cons}
@@ -19,7 +19,7 @@ use Rattle.table.specs.Calls.{clearRefusal}
 use Rattle.holdfile.specs.Bytes.{pair, nibble, where?}
 use Rattle.table.specs.Writing.{anyFrom, writeRefusal, written}
 use Rattle.holdfile.specs.Writer.{hasRule, hasWidth, hasBuckets, hasMask, header, filled, bucketBytes, body, fileOf, writeFile}
-use Rattle.holdfile.specs.Parts.{Put, bodySize, bucketFrom, toldWritten}
+use Rattle.holdfile.specs.Parts.{Put, largerOf, bodySize, bucketFrom, toldWritten}
 use Rattle.holdfile.proofs.Parses.{cellBytes}
 use Rattle.holdfile.proofs.Refusals.{clear-settings, clear-long, clear-passes, clear-number, write-refused, write-wide, write-short, write-passes}
 
@@ -186,6 +186,27 @@ put-turn {o} {e} {at} {r} {a} k rest all s = (
   omega (arith, k .place, ap length s, length-append a rest),
 )
 
+-- a larger of two is as wide as either
+or-left : (s t : Bool) → (t ≡ true → s ≡ true) → s ≡ (s || t)
+or-left true t h = refl
+or-left false true h = h refl
+or-left false false h = refl
+
+or-right : (s t : Bool) → (s ≡ true → t ≡ true) → t ≡ (s || t)
+or-right true t h = h refl
+or-right false t h = refl
+
+or-assoc : (a b c : Bool) → ((a || b) || c) ≡ (a || (b || c))
+or-assoc true b c = refl
+or-assoc false b c = refl
+
+larger-wide : (n a b : ℕ) → leb n (largerOf a b) ≡ (leb n a || leb n b)
+larger-wide n a b = go (leb a b) refl
+  where
+    go : (t : Bool) → leb a b ≡ t → leb n (cond t b a) ≡ (leb n a || leb n b)
+    go true e = or-right (leb n a) (leb n b) (λ k. le-leb n b (omega (arith, leb-true n a k, leb-true a b e)))
+    go false e = or-left (leb n a) (leb n b) (λ k. le-leb n a (omega (arith, leb-true n b k, leb-false a b e)))
+
 module _ (c : List ℕ) (i : ℕ) where
   pub sizes-step : i < length c → sizes (drop i c) ≡ cond (filled (getD c i 0)) 2 0 + sizes (drop (i + 1) c)
   unfolding sizes
@@ -199,11 +220,14 @@ module _ (c : List ℕ) (i : ℕ) where
     any-step : i < length c → anyFrom n (drop i c) ≡ (leb n (getD c i 0) || anyFrom n (drop (i + 1) c))
     any-step h = rw (add-one, drop-cons c i 0) refl
 
-    pub any-found : i < length c → n ≤ getD c i 0 → anyFrom n (drop i c) ≡ true
-    any-found h k = any-step h ∙ rw (le-leb n (getD c i 0) k) refl
-
-    pub any-later : i < length c → getD c i 0 < n → anyFrom n (drop i c) ≡ anyFrom n (drop (i + 1) c)
-    any-later h k = any-step h ∙ rw (lt-leb n (getD c i 0) k) refl
+    -- the largest cell so far stands for those before
+    pub any-turn : (top more : ℕ) → i < length c → more ≡ largerOf top (getD c i 0)
+        → (leb n more || anyFrom n (drop (i + 1) c)) ≡ (leb n top || anyFrom n (drop i c))
+    any-turn top more h e =
+        ap (λ (x : ℕ). leb n x || anyFrom n (drop (i + 1) c)) e
+        ∙ ap (λ (b : Bool). b || anyFrom n (drop (i + 1) c)) (larger-wide n top (getD c i 0))
+        ∙ or-assoc (leb n top) (leb n (getD c i 0)) (anyFrom n (drop (i + 1) c))
+        ∙ ap (λ (b : Bool). leb n top || b) (sym (any-step h))
 
     pub any-end : length c ≤ i → anyFrom n (drop i c) ≡ false
     any-end h = ap (anyFrom n) (drop-of-length-le c h)

@@ -1,10 +1,11 @@
 -- What the functions inside answer: the two definitions, cut where the code is cut.
 -- Assumes nothing.
 use mathlib.Core.Path.{_≡_}
-use mathlib.Core.Bool.{cond}
-use mathlib.Core.List.{List, [], _∷_, _++_}
-use Prim.Native.Nat.{ℕ, _+_, _^_}
-use lib.ListN.{length, take, drop, getD}
+use mathlib.Core.Bool.{Bool, true, false, cond}
+use mathlib.Core.List.{List, [], _++_}
+use Prim.Native.Nat.{ℕ, _+_, _*_, _^_, _≤_}
+use lib.Dec.{leb}
+use lib.ListN.{length, take, drop, getD, set}
 use lib.Seq.{sets}
 use Rattle.index.specs.Checks.{firstMet, Answer, refused, given}
 use Rattle.index.specs.Settings.{settingsChecks}
@@ -12,10 +13,9 @@ use Rattle.index.specs.declared.Settings.{Settings}
 use Rattle.table.specs.Calls.{tableChecks}
 use Rattle.table.specs.Writing.{anyFrom, Written}
 use Rattle.holdfile.specs.Writer.{bucketBytes, body}
-use Rattle.holdfile.specs.Reader.{Parsed, stop, next, andThen, refuseIf, checked, readBucket, readBuckets, ReadOut, leftOver}
+use Rattle.holdfile.specs.Reader.{Parsed, stop, next, andThen, refuseIf, checked, readCell, readBucket, readBuckets, ReadOut, leftOver}
 use Rattle.holdfile.specs.declared.Size.{Size}
 use Rattle.holdfile.specs.declared.Field.{Field}
-use Rattle.holdfile.specs.declared.Bucket.{Bucket}
 use Rattle.holdfile.specs.declared.Pass.{Pass}
 
 -- an answer with what it leaves
@@ -35,6 +35,9 @@ pub record Put (before after : List ℕ) (at : ℕ) (bytes : List ℕ) (end : �
 abbrev pub bucketFrom : List ℕ → ℕ → List ℕ
 bucketFrom c i = bucketBytes (getD c i 0) (getD c (i + 1) 0) (getD c (i + 2) 0) (getD c (i + 3) 0)
 
+abbrev pub largerOf : ℕ → ℕ → ℕ
+largerOf a b = cond (leb a b) b a
+
 abbrev pub sizeIs : Size → Answer ℕ
 sizeIs (Size.Bytes n) = given n
 sizeIs Size.TooWide = refused 17
@@ -47,13 +50,22 @@ abbrev pub fieldIs : List ℕ → Field → Parsed ℕ
 fieldIs l (Field.Value v at) = next v (drop at l)
 fieldIs l Field.Short = stop 11
 
-abbrev pub bucketIs : List ℕ → Bucket → Parsed (List ℕ)
-bucketIs l (Bucket.Cells a b c d at) = next (a ∷ b ∷ c ∷ d ∷ []) (drop at l)
-bucketIs l (Bucket.Refused n) = stop n
-
 abbrev pub passIs : List ℕ → Pass → Parsed (Unit {0})
 passIs l (Pass.End at) = next tt (drop at l)
 passIs l (Pass.Refused n) = stop n
+
+-- two bytes from a place on, as a number
+abbrev pub pairFrom : List ℕ → ℕ → ℕ
+pairFrom l at = getD l at 0 + 256 * getD l (at + 1) 0
+
+-- a cell, marked or not
+abbrev pub cellFrom : List ℕ → ℕ → Bool → ℕ
+cellFrom l at stands = cond stands (pairFrom l at) 0
+
+-- a fingerprint of the width stands at a place, where that is said
+abbrev pub PrintAt : ℕ → List ℕ → ℕ → Bool → Type 0
+PrintAt w l at true = readCell w true (drop at l) ≡ next (pairFrom l at) (drop (at + 2) l)
+PrintAt w l at false = Unit {0}
 
 -- where a reading ends, without what it gives; whether it gives anything; and what
 abbrev pub endOf : Parsed (List ℕ) → Parsed (Unit {0})
@@ -67,6 +79,16 @@ Passed (next c end) = Unit {0}
 abbrev pub cellsOf : Parsed (List ℕ) → List ℕ
 cellsOf (stop n) = []
 cellsOf (next c end) = c
+
+-- a bucket of four fingerprints stands at a place, where that is said
+abbrev pub FullAt : ℕ → List ℕ → ℕ → Bool → Type 0
+FullAt w l at true = (at + 9 ≤ length l) × (endOf (readBucket w (drop at l)) ≡ next tt (drop (at + 9) l))
+FullAt w l at false = Unit {0}
+
+-- a cell was read, as one that has passed, and stored as cell i
+pub record CellStored (l before after : List ℕ) (at : ℕ) (stands : Bool) (i end : ℕ) : Type 0 where
+  pub output : after ≡ set before i (cellFrom l at stands)
+  pub place : end ≡ at + cond stands 2 0
 
 -- a bucket was read, and its cells stored from cell i on; those before are as they were
 pub record Stored (w : ℕ) (l before after : List ℕ) (at i end : ℕ) : Type 0 where

@@ -14,7 +14,7 @@ ghost use Rattle.holdfile.specs.Bytes.{pair, nibble as nibbleOf, one as 
 ghost use Rattle.holdfile.specs.Writer.{header, body, writeFile};
 ghost use Rattle.holdfile.specs.Reader.{takeByte, takePair, field, misfit as misfitOf, readBucket, readBuckets, readOut, readFile};
 ghost use Rattle.holdfile.specs.Answers.{writeIs, readIs};
-ghost use Rattle.holdfile.specs.Parts.{fieldIs, bucketIs, passIs, endOf, Passed, cellsOf, Stored, afterHeader, Put, sizeIs, bodySize, bucketFrom};
+ghost use Rattle.holdfile.specs.Parts.{fieldIs, PrintAt, FullAt, largerOf, passIs, endOf, Passed, cellsOf, CellStored, Stored, afterHeader, Put, sizeIs, bodySize, bucketFrom};
 use index::Settings;
 
 // The byte count, or the number of the refusal.
@@ -41,13 +41,7 @@ enum Field {
     Short,
 }
 
-// A bucket's cells and the place after it.
-enum Bucket {
-    Cells(u16, u16, u16, u16, usize),
-    Refused(u32),
-}
-
-// The place after the buckets.
+// The place after one bucket or more.
 enum Pass {
     End(usize),
     Refused(u32),
@@ -103,21 +97,31 @@ fn header_size(s: Settings) -> usize
         + part_size(rule == 2, 2)
 }
 
-// The first pass over the cells: are they below 2^w, and how many bytes do the buckets take?
+// The larger of two cells.
+fn larger(a: u16, b: u16) -> u16
+    ensures { λ r. ⌜ r ≡ largerOf a b ⌝ }
+{
+    if a <= b { b } else { a }
+}
+
+// The first pass over the cells: are they below 2^w, and how many bytes do the buckets take? The largest is compared once, at the
+// end: a loop that may stop at each cell is far slower.
 fn body_size(table: &[u16], width: u32, buckets: usize) -> Size
     requires { ⌜ (width ≤ 16) × (length (now table) ≡ 4 * buckets) ⌝ }
     ensures { λ r. ⌜ sizeIs r ≡ bodySize width (now (table .entry)) ⌝ }
 {
-    let limit = 1u32 << width;
+    let mut top = 0;
     let mut n = buckets;
     let mut i = 0;
     while i < table.len() {
         let v = table[i];
-        if wide(v) >= limit {
-            return Size::TooWide;
-        }
+        top = larger(top, v);
         n += part_size(v != 0, 2);
         i += 1;
+    }
+    let limit = 1u32 << width;
+    if wide(top) >= limit {
+        return Size::TooWide;
     }
     Size::Bytes(n)
 }
@@ -301,42 +305,92 @@ fn unfit(marked: bool, v: u16, width: u32) -> bool
     wide(v) >= 1u32 << width
 }
 
-// The bucket at a place. A cell that is not marked takes no bytes and is 0.
-fn bucket_at(bytes: &[u8], at: usize, width: u32) -> Bucket
+// The place after a bucket, of which any cell may be marked. One that is not takes no bytes.
+fn bucket_by_cells(bytes: &[u8], at: usize, width: u32) -> Pass
     requires { ⌜ width ≤ 16 ⌝ }
-    ensures { λ r. ⌜ bucketIs (now (bytes .entry)) r ≡ readBucket width (drop at (now (bytes .entry))) ⌝ }
+    ensures { λ r. ⌜ passIs (now (bytes .entry)) r ≡ endOf (readBucket width (drop at (now (bytes .entry)))) ⌝ }
 {
     let Field::Value(marks, at) = byte_at(bytes, at) else {
-        return Bucket::Refused(11);
+        return Pass::Refused(11);
     };
     if marks >= 16 {
-        return Bucket::Refused(13);
+        return Pass::Refused(13);
     }
     let Field::Value(a, at) = pair_field(bytes, at, marks % 2 == 1, 0) else {
-        return Bucket::Refused(11);
+        return Pass::Refused(11);
     };
     if unfit(marks % 2 == 1, a, width) {
-        return Bucket::Refused(14);
+        return Pass::Refused(14);
     }
     let Field::Value(b, at) = pair_field(bytes, at, marks / 2 % 2 == 1, 0) else {
-        return Bucket::Refused(11);
+        return Pass::Refused(11);
     };
     if unfit(marks / 2 % 2 == 1, b, width) {
-        return Bucket::Refused(14);
+        return Pass::Refused(14);
     }
     let Field::Value(c, at) = pair_field(bytes, at, marks / 4 % 2 == 1, 0) else {
-        return Bucket::Refused(11);
+        return Pass::Refused(11);
     };
     if unfit(marks / 4 % 2 == 1, c, width) {
-        return Bucket::Refused(14);
+        return Pass::Refused(14);
     }
     let Field::Value(d, at) = pair_field(bytes, at, marks / 8 % 2 == 1, 0) else {
-        return Bucket::Refused(11);
+        return Pass::Refused(11);
     };
     if unfit(marks / 8 % 2 == 1, d, width) {
-        return Bucket::Refused(14);
+        return Pass::Refused(14);
     }
-    Bucket::Cells(a, b, c, d, at)
+    Pass::End(at)
+}
+
+// Does a fingerprint of the width stand at a place?
+fn print_at(bytes: &[u8], at: usize, width: u32) -> bool
+    requires { ⌜ (width ≤ 16) × (at + 2 ≤ length (now bytes)) ⌝ }
+    ensures { λ r. ⌜ PrintAt width (now (bytes .entry)) at r ⌝ }
+{
+    if unfit(true, pair_of(bytes[at], bytes[at + 1]), width) {
+        return false;
+    }
+    true
+}
+
+// Does a bucket of four good fingerprints stand at a place? Most buckets of a table that is nearly full are such, and their check is short.
+fn full_at(bytes: &[u8], at: usize, width: u32) -> bool
+    requires { ⌜ width ≤ 16 ⌝ }
+    ensures { λ r. ⌜ FullAt width (now (bytes .entry)) at r ⌝ }
+{
+    let n = bytes.len();
+    if n < 9 {
+        return false;
+    }
+    if n - 9 < at {
+        return false;
+    }
+    if bytes[at] != 15 {
+        return false;
+    }
+    if !print_at(bytes, at + 1, width) {
+        return false;
+    }
+    if !print_at(bytes, at + 3, width) {
+        return false;
+    }
+    if !print_at(bytes, at + 5, width) {
+        return false;
+    }
+    print_at(bytes, at + 7, width)
+}
+
+// The place after a bucket.
+fn bucket_end(bytes: &[u8], at: usize, width: u32) -> Pass
+    requires { ⌜ width ≤ 16 ⌝ }
+    ensures { λ r. ⌜ passIs (now (bytes .entry)) r ≡ endOf (readBucket width (drop at (now (bytes .entry)))) ⌝ }
+{
+    if full_at(bytes, at, width) {
+        let end = at + 9;
+        return Pass::End(end);
+    }
+    bucket_by_cells(bytes, at, width)
 }
 
 // The first pass over the buckets: it checks, and stores nothing.
@@ -347,11 +401,11 @@ fn check_buckets(bytes: &[u8], from: usize, width: u32, count: u32) -> Pass
     let mut at = from;
     let mut left = count;
     while left > 0 {
-        match bucket_at(bytes, at, width) {
-            Bucket::Refused(n) => {
+        match bucket_end(bytes, at, width) {
+            Pass::Refused(n) => {
                 return Pass::Refused(n);
             }
-            Bucket::Cells(_, _, _, _, next) => {
+            Pass::End(next) => {
                 at = next;
             }
         }
@@ -360,28 +414,32 @@ fn check_buckets(bytes: &[u8], from: usize, width: u32, count: u32) -> Pass
     Pass::End(at)
 }
 
-// The four cells of one bucket, lent as a part of the table.
-fn put_cells(part: &mut [u16], a: u16, b: u16, c: u16, d: u16)
-    requires { ⌜ length (now part) ≡ 4 ⌝ }
-    ensures { λ r. ⌜ now (part .exit) ≡ a ∷ b ∷ c ∷ d ∷ [] ⌝ }
+// One cell into cell i, where the first pass has met no refusal; the place after it.
+fn store_cell(bytes: &[u8], at: usize, stands: bool, table: &mut [u16], i: usize) -> usize
+    requires { ⌜ (at + cond stands 2 0 ≤ length (now bytes)) × (i < length (now table)) ⌝ }
+    ensures { λ r. ⌜ CellStored (now (bytes .entry)) (now (table .entry)) (now (table .exit)) at stands i r ⌝ }
 {
-    part[0] = a;
-    part[1] = b;
-    part[2] = c;
-    part[3] = d;
+    if stands {
+        let next = at + 2;
+        table[i] = pair_of(bytes[at], bytes[at + 1]);
+        return next;
+    }
+    table[i] = 0;
+    at
 }
 
-// One bucket into the cells from i on; the place after it. The first pass has met no refusal.
+// One bucket into the cells from i on; the place after it. The first pass has met no refusal, so nothing is checked again:
+// the width only says what has passed.
 fn store_bucket(bytes: &[u8], at: usize, width: u32, table: &mut [u16], i: usize) -> usize
     requires { ⌜ (width ≤ 16) × (i + 4 ≤ length (now table)) × Passed (readBucket width (drop at (now bytes))) ⌝ }
     ensures { λ r. ⌜ Stored width (now (bytes .entry)) (now (table .entry)) (now (table .exit)) at i r ⌝ }
 {
-    let Bucket::Cells(a, b, c, d, next) = bucket_at(bytes, at, width) else {
-        return at;
-    };
-    let end = i + 4;
-    put_cells(&mut table[i..end], a, b, c, d);
-    next
+    let marks = widen(bytes[at]);
+    let at = at + 1;
+    let at = store_cell(bytes, at, marks % 2 == 1, table, i);
+    let at = store_cell(bytes, at, marks / 2 % 2 == 1, table, i + 1);
+    let at = store_cell(bytes, at, marks / 4 % 2 == 1, table, i + 2);
+    store_cell(bytes, at, marks / 8 % 2 == 1, table, i + 3)
 }
 
 // The second pass: every bucket into the table.

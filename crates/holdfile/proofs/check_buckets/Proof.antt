@@ -1,13 +1,12 @@
 use Prim.Native.Nat.{ℕ}
 use borrow.Author.Needs.{needs}
 use lib.ListN.{drop}
-use mathlib.Core.List.{[], _∷_}
 use mathlib.Core.Path.{_≡_, refl, sym, ap, _∙_}
 use native.Mathlib.Omega.{arith}
-use Rattle.holdfile.proofs.Reading.{bucket-stops, check-turn, none-more}
+use Rattle.holdfile.proofs.Reading.{check-stops, check-turn, none-more}
 use Rattle.holdfile.proofs.check_buckets.Statement.{statement}
 use Rattle.holdfile.proofs.check_buckets.Tie as tie
-use Rattle.holdfile.specs.Parts.{bucketIs, endOf}
+use Rattle.holdfile.specs.Parts.{passIs, endOf}
 use Rattle.holdfile.specs.Reader.{readBuckets}
 
 abbrev Inv-loop : tie.InvT-loop
@@ -19,8 +18,8 @@ abbrev μ-loop : tie.MeasureT-loop
 loop-holds : tie.Need-loop-holds Inv-loop μ-loop
 loop-holds c = refl
 
-bucket-at-requires : tie.Need-bucket-at-requires Inv-loop μ-loop
-bucket-at-requires c κs = c .before .before .before .pre
+bucket-end-requires : tie.Need-bucket-end-requires Inv-loop μ-loop
+bucket-end-requires c κs = c .before .before .before .pre
 
 enum-known-n : tie.Need-enum-known-n Inv-loop μ-loop
 enum-known-n c = search needs
@@ -29,8 +28,8 @@ returns : tie.Need-returns Inv-loop μ-loop
 returns c =
     let a = c .before .before .before .before .before .before .before .args in
     let l = c .before .before .before .before .before .loop in
-    let b = c .before .before .before .bucket-at in
-    sym (ap endOf (bucket-stops (a .width) (l .left) (drop (l .at) (a .bytes .now)) (c .before .before .before .before .loop-test .taken) (c .before .n .given .0 .0) (sym (b .ensures) ∙ ap (bucketIs (a .bytes .now)) (c .before .n .given .1)))) ∙ l .inv
+    let b = c .before .before .before .bucket-end in
+    sym (ap endOf (check-stops (a .width) (l .left) (drop (l .at) (a .bytes .now)) (c .before .before .before .before .loop-test .taken) (c .before .n .given .0 .0) (ap (passIs (a .bytes .now)) (sym (c .before .n .given .1)) ∙ b .ensures))) ∙ l .inv
 
 enum-known-next : tie.Need-enum-known-next Inv-loop μ-loop
 enum-known-next c = search needs
@@ -46,8 +45,8 @@ loop-again c =
     let a = c .before .before .before .before .before .before .before .args in
     let l = c .before .before .before .before .before .loop in
     let v = c .before .next .given .0 in
-    check-turn (a .width) (l .left) (drop (l .at) (a .bytes .now)) (c .before .before .before .before .loop-test .taken) (v .0 ∷ v .1 .0 ∷ v .1 .1 .0 ∷ v .1 .1 .1 .0 ∷ []) (drop (v .1 .1 .1 .1 .0) (a .bytes .now))
-    (sym (c .before .before .before .bucket-at .ensures) ∙ ap (bucketIs (a .bytes .now)) (c .before .next .given .1)) ∙ l .inv
+    check-turn (a .width) (l .left) (drop (l .at) (a .bytes .now)) (c .before .before .before .before .loop-test .taken) (drop (v .0) (a .bytes .now))
+    (ap (passIs (a .bytes .now)) (sym (c .before .next .given .1)) ∙ c .before .before .before .bucket-end .ensures) ∙ l .inv
 
 returns-2 : tie.Need-returns-2 Inv-loop μ-loop
 returns-2 c =
@@ -63,7 +62,7 @@ check-buckets-spec =
     Inv-loop
     μ-loop
     loop-holds
-    bucket-at-requires
+    bucket-end-requires
     enum-known-n
     returns
     enum-known-next

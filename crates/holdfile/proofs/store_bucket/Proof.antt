@@ -1,68 +1,136 @@
-use Prim.Native.Nat.{_+_, _-_}
+use Prim.Native.Nat.{ℕ, _+_}
 use borrow.Author.Needs.{needs}
 use lib.ListN.{drop}
-use mathlib.Core.Path.{sym, ap, _∙_}
-use Rattle.holdfile.proofs.Reading.{never-stops, stored}
+use mathlib.Core.List.{List}
+use mathlib.Core.Path.{refl}
+use native.Mathlib.Omega.{arith}
+use Rattle.holdfile.proofs.Reading.{Come, come-room, come-on, come-next, come-first, marks-in, behind0, behind1, behind2, behind3, stored}
 use Rattle.holdfile.proofs.store_bucket.Statement.{statement}
 use Rattle.holdfile.proofs.store_bucket.Tie as tie
-use Rattle.holdfile.specs.Parts.{bucketIs}
-use Rattle.holdfile.specs.Reader.{readBucket}
+use Rattle.holdfile.specs.Bytes.{bit0, bit1, bit2, bit3}
+use Rattle.holdfile.specs.Parts.{cellFrom}
+use Rattle.holdfile.specs.Reader.{Parsed, readBucket}
 
-bucket-at-requires : tie.Need-bucket-at-requires
-bucket-at-requires c κs = search needs
+-- ── the places: behind the byte that marks the cells, and behind each cell ──
+abbrev start : tie.After-widen → tie.Start
+start c = c .before .before .before .before
 
-enum-known-a : tie.Need-enum-known-a
-enum-known-a c = search needs
+abbrev before-a : tie.After-store-cell → tie.After-widen
+before-a c = c .before .before
 
-enum-told : tie.Need-enum-told
-enum-told c = search needs
+abbrev before-b : tie.After-store-cell2 → tie.After-store-cell
+before-b c = c .before .before .before .before
 
-returns : tie.Need-returns
-returns c =
-    let a = c .before .before .before .before .before .args in
-    absurd (never-stops (readBucket (a .width) (drop (a .at) (a .bytes .now))) (c .enum-told .given .0 .0) (c .before .before .before .before .before .pre .2) (ap (bucketIs (a .bytes .now)) (sym (c .enum-told .given .1)) ∙ c .before .before .bucket-at .ensures))
+abbrev before-c : tie.After-store-cell3 → tie.After-store-cell2
+before-c c = c .before .before .before .before
 
-add-end : tie.Need-add-end
-add-end c = search needs
+-- the whole, and what has been read of it
+abbrev width : tie.After-widen → ℕ
+width c = start c .args .width
 
-mul-put-cells : tie.Need-mul-put-cells
-mul-put-cells c = search needs
+abbrev bytes : tie.After-widen → List ℕ
+bytes c = start c .args .bytes .now
 
-sub-put-cells : tie.Need-sub-put-cells
-sub-put-cells c = search needs
+abbrev marks : tie.After-widen → ℕ
+marks c = c .widen .result
 
-part-put-cells-start : tie.Need-part-put-cells-start
-part-put-cells-start c = search needs
+abbrev whole : tie.After-widen → Parsed (List ℕ)
+whole c = readBucket (width c) (drop (start c .args .at) (bytes c))
 
-part-put-cells-end : tie.Need-part-put-cells-end
-part-put-cells-end c = search needs
+abbrev cell-a : tie.After-widen → ℕ
+cell-a c = cellFrom (bytes c) (start c .args .at + 1) (bit0 (marks c))
 
-put-cells-requires : tie.Need-put-cells-requires
-put-cells-requires c κs = search needs
+abbrev cell-b : tie.After-store-cell → ℕ
+cell-b c = cellFrom (bytes (before-a c)) (c .store-cell .result) (bit1 (marks (before-a c)))
+
+abbrev cell-c : tie.After-store-cell2 → ℕ
+cell-c c = cellFrom (bytes (before-a (before-b c))) (c .store-cell2 .result) (bit2 (marks (before-a (before-b c))))
+
+abbrev cell-d : tie.After-store-cell3 → ℕ
+cell-d c = cellFrom (bytes (before-a (before-b (before-c c)))) (c .store-cell3 .result) (bit3 (marks (before-a (before-b (before-c c)))))
+
+-- ── the whole, continued from each place ──
+at-a : (c : tie.After-widen) → Come (whole c) (width c) (bit0 (marks c)) (bytes c) (start c .args .at + 1) (behind0 (width c) (marks c))
+at-a c = come-first (width c) (bytes c) (start c .args .at) (start c .pre .2) (marks c) (c .widen .ensures)
+
+at-b : (c : tie.After-store-cell)
+    → Come (whole (before-a c)) (width (before-a c)) (bit1 (marks (before-a c))) (bytes (before-a c)) (c .store-cell .result) (behind1 (width (before-a c)) (marks (before-a c)) (cell-a (before-a c)))
+at-b c = come-next (at-a (before-a c)) (c .store-cell .ensures .place) (λ rest. refl)
+
+at-c : (c : tie.After-store-cell2)
+    → Come (whole (before-a (before-b c))) (width (before-a (before-b c))) (bit2 (marks (before-a (before-b c)))) (bytes (before-a (before-b c))) (c .store-cell2 .result)
+    (behind2 (width (before-a (before-b c))) (marks (before-a (before-b c))) (cell-a (before-a (before-b c))) (cell-b (before-b c)))
+at-c c = come-next (at-b (before-b c)) (c .store-cell2 .ensures .place) (λ rest. refl)
+
+at-d : (c : tie.After-store-cell3)
+    → Come (whole (before-a (before-b (before-c c)))) (width (before-a (before-b (before-c c)))) (bit3 (marks (before-a (before-b (before-c c))))) (bytes (before-a (before-b (before-c c)))) (c .store-cell3 .result)
+    (behind3 (cell-a (before-a (before-b (before-c c)))) (cell-b (before-b (before-c c))) (cell-c (before-c c)))
+at-d c = come-next (at-c (before-c c)) (c .store-cell3 .ensures .place) (λ rest. refl)
+
+shared-slice-read-widen : tie.Need-shared-slice-read-widen
+shared-slice-read-widen c = let s = c .before .before .before in omega (arith, marks-in (s .args .width) (s .args .bytes .now) (s .args .at) (s .pre .2))
+
+widen-requires : tie.Need-widen-requires
+widen-requires c κs = search needs
+
+add-at : tie.Need-add-at
+add-at c = omega (arith, at-a c .within)
+
+store-cell-requires : tie.Need-store-cell-requires
+store-cell-requires c κs = (come-room (at-a (c .before)), omega (arith, start (c .before) .pre .1))
+
+add-store-cell : tie.Need-add-store-cell
+add-store-cell c = search needs
+
+store-cell-requires-2 : tie.Need-store-cell-requires-2
+store-cell-requires-2 c κs = let a = c .before .before .before in (come-room (at-b a), omega (arith, start (before-a a) .pre .1, a .store-cell .kept .1 .1 .1 .0))
+
+add-store-cell-2 : tie.Need-add-store-cell-2
+add-store-cell-2 c = search needs
+
+store-cell-requires-3 : tie.Need-store-cell-requires-3
+store-cell-requires-3 c κs =
+    let b = c .before .before .before in
+    let a = before-b b in
+    (come-room (at-c b), omega (arith, start (before-a a) .pre .1, a .store-cell .kept .1 .1 .1 .0, b .store-cell2 .kept .1 .1 .1 .0))
+
+add-store-cell-3 : tie.Need-add-store-cell-3
+add-store-cell-3 c = search needs
+
+store-cell-requires-4 : tie.Need-store-cell-requires-4
+store-cell-requires-4 c κs =
+    let e = c .before .before .before in
+    let b = before-c e in
+    let a = before-b b in
+    (come-room (at-d e), omega (arith, start (before-a a) .pre .1, a .store-cell .kept .1 .1 .1 .0, b .store-cell2 .kept .1 .1 .1 .0, e .store-cell3 .kept .1 .1 .1 .0))
 
 same-length : tie.Need-same-length
 same-length c = search needs
 
-returns-2 : tie.Need-returns-2
-returns-2 c =
-    let a = c .before .before .before .before .before .before .before .before .before .before .args in
-    let v = c .before .before .before .before .before .a .given .0 in
-    stored (a .width) (a .bytes .now) (a .table .now) (a .at) (a .i) (v .1 .1 .1 .1 .0) (v .0) (v .1 .0) (v .1 .1 .0) (v .1 .1 .1 .0) (c .before .before .before .before .before .before .before .before .before .before .pre .1)
-    (sym (c .before .before .before .before .before .before .before .bucket-at .ensures) ∙ ap (bucketIs (a .bytes .now)) (c .before .before .before .before .before .a .given .1)) (c .before .before .put-cells .last .0) (drop (a .i + 4 - a .i) (drop (a .i) (a .table .now))) (c .before .before .put-cells .ensures)
+returns : tie.Need-returns
+returns c =
+    let f = c .before .before in
+    let e = f .before .before .before .before in
+    let b = before-c e in
+    let a = before-b b in
+    let s = start (before-a a) in
+    stored (s .args .width) (s .args .bytes .now) (s .args .table .now) (s .args .at) (s .args .i) (f .store-cell4 .result) (cell-a (before-a a)) (cell-b a) (cell-c b) (cell-d e) (s .pre .1)
+    (come-on (at-d e) (f .store-cell4 .ensures .place)) (a .store-cell .last .1 .1 .1 .0) (b .store-cell2 .last .1 .1 .1 .0) (e .store-cell3 .last .1 .1 .1 .0) (f .store-cell4 .last .1 .1 .1 .0)
+    (a .store-cell .ensures .output) (b .store-cell2 .ensures .output) (e .store-cell3 .ensures .output) (f .store-cell4 .ensures .output)
 
 pub store-bucket-spec : {M : Type 1} → statement M
 store-bucket-spec =
     tie.close
     (tie.spec
-    bucket-at-requires
-    enum-known-a
-    enum-told
-    returns
-    add-end
-    mul-put-cells
-    sub-put-cells
-    part-put-cells-start
-    part-put-cells-end
-    put-cells-requires
+    shared-slice-read-widen
+    widen-requires
+    add-at
+    store-cell-requires
+    add-store-cell
+    store-cell-requires-2
+    add-store-cell-2
+    store-cell-requires-3
+    add-store-cell-3
+    store-cell-requires-4
     same-length
-    returns-2)
+    returns)

@@ -4,11 +4,12 @@ use borrow.Author.Tests.{le-leb, lt-leb}
 use lib.Dec.{leb}
 use lib.ListN.{drop}
 use mathlib.Core.List.{List}
-use mathlib.Core.Path.{sym}
+use mathlib.Core.Path.{sym, ap}
 use Rattle.holdfile.proofs.Reading.{AtField, AtTest, AtCell, field-taken, field-ends, test-met, test-passed, cell-ends, cell-unfit, cell-taken, allCells, behindMarks, behind0, behind1, behind2, behind3, bucket-opened}
-use Rattle.holdfile.proofs.bucket_at.Statement.{statement}
-use Rattle.holdfile.proofs.bucket_at.Tie as tie
+use Rattle.holdfile.proofs.bucket_by_cells.Statement.{statement}
+use Rattle.holdfile.proofs.bucket_by_cells.Tie as tie
 use Rattle.holdfile.specs.Bytes.{bit0, bit1, bit2, bit3}
+use Rattle.holdfile.specs.Parts.{endOf}
 use Rattle.holdfile.specs.Reader.{Parsed, takeByte, readBucket}
 
 -- ── the places: behind the byte that marks the cells, and behind each cell ──
@@ -92,10 +93,10 @@ enum-told : tie.Need-enum-told
 enum-told c = search needs
 
 returns : tie.Need-returns
-returns c = field-ends (c .before .before .before .before .args .bytes .now) (c .before .before .byte-at .result) (opened (c .before .before .before .before)) (c .before .before .byte-at .ensures) (c .enum-told .given .1)
+returns c = ap endOf (field-ends (c .before .before .before .before .args .bytes .now) (c .before .before .byte-at .result) (opened (c .before .before .before .before)) (c .before .before .byte-at .ensures) (c .enum-told .given .1))
 
 returns-2 : tie.Need-returns-2
-returns-2 c = test-met (at-marks (c .before .before)) (le-leb 16 (c .before .before .marks .given .0 .0) (c .if1 .taken))
+returns-2 c = ap endOf (test-met (at-marks (c .before .before)) (le-leb 16 (c .before .before .marks .given .0 .0) (c .if1 .taken)))
 
 pair-field-requires : tie.Need-pair-field-requires
 pair-field-requires c κs = search needs
@@ -107,13 +108,13 @@ enum-told-2 : tie.Need-enum-told-2
 enum-told-2 c = search needs
 
 returns-3 : tie.Need-returns-3
-returns-3 c = cell-ends (bytes (c .before .before .before)) (c .before .before .pair-field .result) (at-a (c .before .before .before)) (c .before .before .pair-field .ensures) (c .enum-told2 .given .1)
+returns-3 c = ap endOf (cell-ends (bytes (c .before .before .before)) (c .before .before .pair-field .result) (at-a (c .before .before .before)) (c .before .before .pair-field .ensures) (c .enum-told2 .given .1))
 
 unfit-requires : tie.Need-unfit-requires
 unfit-requires c κs = search needs
 
 returns-4 : tie.Need-returns-4
-returns-4 c = cell-unfit (bytes (c .before .before .before .before .before .before)) (c .before .before .before .before .before .pair-field .result) (at-a (c .before .before .before .before .before .before)) (c .before .before .before .before .before .pair-field .ensures) (c .before .before .before .a .given .1) (c .before .unfit .ensures) (c .if2 .taken)
+returns-4 c = ap endOf (cell-unfit (bytes (c .before .before .before .before .before .before)) (c .before .before .before .before .before .pair-field .result) (at-a (c .before .before .before .before .before .before)) (c .before .before .before .before .before .pair-field .ensures) (c .before .before .before .a .given .1) (c .before .unfit .ensures) (c .if2 .taken))
 
 pair-field-requires-2 : tie.Need-pair-field-requires-2
 pair-field-requires-2 c κs = search needs
@@ -125,13 +126,13 @@ enum-told-3 : tie.Need-enum-told-3
 enum-told-3 c = search needs
 
 returns-5 : tie.Need-returns-5
-returns-5 c = cell-ends (bytes (before-a (c .before .before .before))) (c .before .before .pair-field2 .result) (at-b (c .before .before .before)) (c .before .before .pair-field2 .ensures) (c .enum-told3 .given .1)
+returns-5 c = ap endOf (cell-ends (bytes (before-a (c .before .before .before))) (c .before .before .pair-field2 .result) (at-b (c .before .before .before)) (c .before .before .pair-field2 .ensures) (c .enum-told3 .given .1))
 
 unfit-requires-2 : tie.Need-unfit-requires-2
 unfit-requires-2 c κs = search needs
 
 returns-6 : tie.Need-returns-6
-returns-6 c = cell-unfit (bytes (before-a (c .before .before .before .before .before .before))) (c .before .before .before .before .before .pair-field2 .result) (at-b (c .before .before .before .before .before .before)) (c .before .before .before .before .before .pair-field2 .ensures) (c .before .before .before .b .given .1) (c .before .unfit2 .ensures) (c .if3 .taken)
+returns-6 c = ap endOf (cell-unfit (bytes (before-a (c .before .before .before .before .before .before))) (c .before .before .before .before .before .pair-field2 .result) (at-b (c .before .before .before .before .before .before)) (c .before .before .before .before .before .pair-field2 .ensures) (c .before .before .before .b .given .1) (c .before .unfit2 .ensures) (c .if3 .taken))
 
 pair-field-requires-3 : tie.Need-pair-field-requires-3
 pair-field-requires-3 c κs = search needs
@@ -143,13 +144,13 @@ enum-told-4 : tie.Need-enum-told-4
 enum-told-4 c = search needs
 
 returns-7 : tie.Need-returns-7
-returns-7 c = cell-ends (bytes (before-a (before-b (c .before .before .before)))) (c .before .before .pair-field3 .result) (at-c (c .before .before .before)) (c .before .before .pair-field3 .ensures) (c .enum-told4 .given .1)
+returns-7 c = ap endOf (cell-ends (bytes (before-a (before-b (c .before .before .before)))) (c .before .before .pair-field3 .result) (at-c (c .before .before .before)) (c .before .before .pair-field3 .ensures) (c .enum-told4 .given .1))
 
 unfit-requires-3 : tie.Need-unfit-requires-3
 unfit-requires-3 c κs = search needs
 
 returns-8 : tie.Need-returns-8
-returns-8 c = cell-unfit (bytes (before-a (before-b (c .before .before .before .before .before .before)))) (c .before .before .before .before .before .pair-field3 .result) (at-c (c .before .before .before .before .before .before)) (c .before .before .before .before .before .pair-field3 .ensures) (c .before .before .before .c .given .1) (c .before .unfit3 .ensures) (c .if4 .taken)
+returns-8 c = ap endOf (cell-unfit (bytes (before-a (before-b (c .before .before .before .before .before .before)))) (c .before .before .before .before .before .pair-field3 .result) (at-c (c .before .before .before .before .before .before)) (c .before .before .before .before .before .pair-field3 .ensures) (c .before .before .before .c .given .1) (c .before .unfit3 .ensures) (c .if4 .taken))
 
 pair-field-requires-4 : tie.Need-pair-field-requires-4
 pair-field-requires-4 c κs = search needs
@@ -161,19 +162,19 @@ enum-told-5 : tie.Need-enum-told-5
 enum-told-5 c = search needs
 
 returns-9 : tie.Need-returns-9
-returns-9 c = cell-ends (bytes (before-a (before-b (before-c (c .before .before .before))))) (c .before .before .pair-field4 .result) (at-d (c .before .before .before)) (c .before .before .pair-field4 .ensures) (c .enum-told5 .given .1)
+returns-9 c = ap endOf (cell-ends (bytes (before-a (before-b (before-c (c .before .before .before))))) (c .before .before .pair-field4 .result) (at-d (c .before .before .before)) (c .before .before .pair-field4 .ensures) (c .enum-told5 .given .1))
 
 unfit-requires-4 : tie.Need-unfit-requires-4
 unfit-requires-4 c κs = start (before-a (before-b (before-c (c .before .before .before .before)))) .pre
 
 returns-10 : tie.Need-returns-10
-returns-10 c = cell-unfit (bytes (before-a (before-b (before-c (c .before .before .before .before .before .before))))) (c .before .before .before .before .before .pair-field4 .result) (at-d (c .before .before .before .before .before .before)) (c .before .before .before .before .before .pair-field4 .ensures) (c .before .before .before .d .given .1) (c .before .unfit4 .ensures) (c .if5 .taken)
+returns-10 c = ap endOf (cell-unfit (bytes (before-a (before-b (before-c (c .before .before .before .before .before .before))))) (c .before .before .before .before .before .pair-field4 .result) (at-d (c .before .before .before .before .before .before)) (c .before .before .before .before .before .pair-field4 .ensures) (c .before .before .before .d .given .1) (c .before .unfit4 .ensures) (c .if5 .taken))
 
 returns-11 : tie.Need-returns-11
-returns-11 c = sym (cell-taken (bytes (before-a (before-b (before-c (c .before .before .before .before .before .before))))) (c .before .before .before .before .before .pair-field4 .result) (at-d (c .before .before .before .before .before .before)) (c .before .before .before .before .before .pair-field4 .ensures) (c .before .before .before .d .given .1) (c .before .unfit4 .ensures) (c .if5 .left))
+returns-11 c = ap endOf (sym (cell-taken (bytes (before-a (before-b (before-c (c .before .before .before .before .before .before))))) (c .before .before .before .before .before .pair-field4 .result) (at-d (c .before .before .before .before .before .before)) (c .before .before .before .before .before .pair-field4 .ensures) (c .before .before .before .d .given .1) (c .before .unfit4 .ensures) (c .if5 .left)))
 
-pub bucket-at-spec : {M : Type 1} → statement M
-bucket-at-spec =
+pub bucket-by-cells-spec : {M : Type 1} → statement M
+bucket-by-cells-spec =
     tie.close
     (tie.spec
     byte-at-requires
