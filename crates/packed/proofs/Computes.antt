@@ -5,11 +5,11 @@ use mathlib.Core.Bool.{Bool, true, false, not, _||_}
 use mathlib.Core.Logic.{_≢_}
 use mathlib.Core.List.{List, [], _∷_, _++_, append-assoc, append-nil}
 use Prim.Native.Nat.{ℕ, zero, suc, _+_, _*_, _-_, _/_, _%_, _^_, _≤_, _<_, min, max}
-use native.Mathlib.Nat.{mod-lt, mod-eq-of-lt, div-eq-of-lt, div-one, mul-comm, mul-suc, mul-assoc, mul-le-mul, mul-le-mul-right, lt-of-lt-of-le, one-mul}
+use native.Mathlib.Nat.{mod-lt, mod-eq-of-lt, div-eq-of-lt, div-one, mul-comm, mul-assoc, mul-add, mul-le-mul, mul-le-mul-right, lt-of-lt-of-le, one-mul, div-add-mod'}
 use native.Mathlib.Numerals.{add-one}
 use native.Mathlib.Omega.{arith}
 use borrow.Author.Tests.{le-ltb, le-leb, lt-leb, leb-false, eq-eqb, ne-eqb}
-use lib.Bits.{bitAnd, and-mask}
+use lib.Bits.{bitAnd, and-mask, and-block, and-high, and-le-l}
 use lib.Dec.{eqb, leb, ltb}
 use lib.ListN.{length, getD, take, drop, set, length-append, length-drop, drop-of-length-le}
 use lib.Pow.{pow-pos, pow-mono, pow-add, shl-exact, shl-lt, shr-shr, field, mod-mod-pow}
@@ -24,7 +24,7 @@ use Rattle.table.specs.Writing.{anyFrom}
 use Rattle.packed.specs.Writer.{sort4, sortBuckets, high, low, codeOf, bucketBits, streamOf, packedLength}
 use Rattle.packed.specs.Reader.{lowPart, joined, bucketFrom, descends}
 use Rattle.lemmas.proofs.Bytes.{bytes-length, bytes-split, number-drop, number-take, number-below, drop-bytes}
-use Rattle.packed.proofs.Codes.{high-below, high-mono, code-below}
+use Rattle.packed.proofs.Codes.{high-below, high-mono, code-below, quotient-below, digit-rest}
 use Rattle.packed.proofs.Sort.{sort-ascends, sort-below}
 
 -- ── shifts and masks ──
@@ -55,18 +55,135 @@ module _ (x n low : ℕ) (hx : x < 2 ^ 36) (hn : n ≤ 12) (hl : low < 2 ^ n) wh
   pub above-fits : x * 2 ^ n % 2 ^ 64 + low < 2 ^ 64
   above-fits = omega (arith, shifted, few-bits n hn, mul-le-mul-right x (few-bits n hn))
 
--- ── a nibble above n bits ──
-module _ (nibble n x : ℕ) (hq : nibble < 16) (hn : n ≤ 12) where
-  nibble-shifted : nibble * 2 ^ n % 2 ^ 16 ≡ nibble * 2 ^ n
-  nibble-shifted = shl-exact {a = nibble} 4 n 16 hq (omega arith)
+-- ── four parts of 16 bits ──
+abbrev pub lanes : ℕ → ℕ → ℕ → ℕ → ℕ
+lanes a b c d = a + 65536 * (b + 65536 * (c + 65536 * d))
 
-  pub join-is : nibble * 2 ^ n % 2 ^ 16 + bitAnd x (1 * 2 ^ n % 2 ^ 64 - 1) ≡ nibble * 2 ^ n + x % 2 ^ n
-  join-is = ap₂ _+_ nibble-shifted (masked x n 64 (omega arith))
+-- four fields of n bits, moved apart in two steps
+module _ (n x : ℕ) (few : n ≤ 12) where
+  abbrev size : ℕ
+  size = 2 ^ n
 
-  pub join-fits : nibble * 2 ^ n % 2 ^ 16 + bitAnd x (1 * 2 ^ n % 2 ^ 64 - 1) < 2 ^ 16
-  join-fits =
-      let e : nibble * 2 ^ n ≤ 15 * 2 ^ n = mul-le-mul-right (2 ^ n) (omega arith) in
-      omega (arith, nibble-shifted, masked-below x n 64 (omega arith), few-bits n hn)
+  abbrev x0 : ℕ
+  x0 = x % 2 ^ (n * 2)
+
+  abbrev x1 : ℕ
+  x1 = x / 2 ^ (n * 2) % 2 ^ (n * 2)
+
+  abbrev pairs : ℕ
+  pairs = bitAnd x (1 * 2 ^ (n * 2) % 2 ^ 64 - 1) + bitAnd (x / 2 ^ (n * 2)) (1 * 2 ^ (n * 2) % 2 ^ 64 - 1) * 4294967296
+
+  abbrev lower : ℕ
+  lower = bitAnd pairs ((1 * 2 ^ n % 2 ^ 64 - 1) * 4294967297)
+
+  small : (y : ℕ) → y % 2 ^ (n * 2) < 16777216
+  small y = lt-of-lt-of-le (mod-lt y (pow-pos (n * 2))) (pow-mono {j = 24} (omega arith))
+
+  pairs-are : pairs ≡ x1 * 4294967296 + x0
+  pairs-are = omega (arith, masked x (n * 2) 64 (omega arith), masked (x / 2 ^ (n * 2)) (n * 2) 64 (omega arith))
+
+  lower-is : lower ≡ x1 % size * 4294967296 + x0 % size
+  lower-is =
+      let m : ℕ = size - 1 in
+      let e : (1 * 2 ^ n % 2 ^ 64 - 1) * 4294967297 ≡ m * 4294967296 + m = omega (arith, one-shifted n 64 (omega arith)) in
+      ap₂ bitAnd pairs-are e
+      ∙ and-block 32 x1 m x0 m (omega (arith, small x)) (omega (arith, few-bits n few))
+      ∙ ap₂ (λ (a b : ℕ). a * 4294967296 + b) (and-mask x1 n) (and-mask x0 n)
+
+  pub one-fits : (1 * 2 ^ n % 2 ^ 64 - 1) * 4294967297 < 2 ^ 64
+  one-fits = omega (arith, one-shifted n 64 (omega arith), few-bits n few)
+
+  pub second-fits64 : bitAnd (x / 2 ^ (n * 2)) (1 * 2 ^ (n * 2) % 2 ^ 64 - 1) * 4294967296 < 2 ^ 64
+  second-fits64 = omega (arith, masked (x / 2 ^ (n * 2)) (n * 2) 64 (omega arith), small (x / 2 ^ (n * 2)))
+
+  pub pairs-fit : pairs < 2 ^ 64
+  pairs-fit = omega (arith, pairs-are, small x, small (x / 2 ^ (n * 2)))
+
+  pub lower-within : lower ≤ pairs
+  lower-within = and-le-l pairs ((1 * 2 ^ n % 2 ^ 64 - 1) * 4294967297)
+
+  abbrev upper : ℕ
+  upper = x1 / size * 4294967296 + x0 / size
+
+  upper-is : pairs - lower ≡ upper * size
+  upper-is =
+      let a : ℕ = x1 / size in
+      let b : ℕ = x0 / size in
+      let f : upper * size ≡ a * size * 4294967296 + b * size = omega (arith, mul-comm upper size, mul-add size (a * 4294967296) b, sym (mul-assoc size a 4294967296), mul-comm size a, mul-comm size b) in
+      omega (arith, pairs-are, lower-is, div-add-mod' x1 size, div-add-mod' x0 size)
+
+  twice : n * 2 ≡ n + n
+  twice = omega arith
+
+  low-of : (y : ℕ) → y % 2 ^ (n * 2) % size ≡ y % size
+  low-of y = ap (λ (k : ℕ). y % 2 ^ k % size) twice ∙ mod-mod-pow y n n
+
+  high-of : (y : ℕ) → y % 2 ^ (n * 2) / size ≡ y / size % size
+  high-of y = ap (λ (k : ℕ). y % 2 ^ k / size) twice ∙ field y n n
+
+  high-small : (y : ℕ) → y % 2 ^ (n * 2) / size < 4096
+  high-small y = lt-of-lt-of-le (subst (λ (z : ℕ). z < size) (sym (high-of y)) (mod-lt (y / size) (pow-pos n))) (few-bits n few)
+
+  moved : (pairs - lower) * 2 ^ (16 - n) % 2 ^ 64 ≡ upper * 65536
+  moved =
+      let e : n + (16 - n) ≡ 16 = omega arith in
+      let f : size * 2 ^ (16 - n) ≡ 65536 = sym (pow-add 2 n (16 - n)) ∙ ap (λ (k : ℕ). 2 ^ k) e in
+      let g : (pairs - lower) * 2 ^ (16 - n) ≡ upper * 65536 = ap (λ (z : ℕ). z * 2 ^ (16 - n)) upper-is ∙ mul-assoc upper size (2 ^ (16 - n)) ∙ ap (λ (z : ℕ). upper * z) f in
+      ap (λ (z : ℕ). z % 2 ^ 64) g ∙ mod-eq-of-lt (omega (arith, high-small x, high-small (x / 2 ^ (n * 2))))
+
+  pub sum-fits : lower + (pairs - lower) * 2 ^ (16 - n) % 2 ^ 64 < 2 ^ 64
+  sum-fits = omega (arith, moved, lower-within, pairs-are, small x, small (x / 2 ^ (n * 2)), high-small x, high-small (x / 2 ^ (n * 2)))
+
+  pub fields-are : lower + (pairs - lower) * 2 ^ (16 - n) % 2 ^ 64 ≡ lanes (x % size) (x / size % size) (x / 2 ^ (n * 2) % size) (x / 2 ^ (n * 3) % size)
+  fields-are =
+      let e : n * 2 + n ≡ n * 3 = omega arith in
+      let h3 : x1 / size ≡ x / 2 ^ (n * 3) % size = high-of (x / 2 ^ (n * 2)) ∙ ap (λ (z : ℕ). z % size) (shr-shr x (n * 2) n ∙ ap (λ (k : ℕ). x / 2 ^ k) e) in
+      omega (arith, moved, lower-is, low-of x, high-of x, low-of (x / 2 ^ (n * 2)), h3)
+
+top-nibble : (x : ℕ) → bitAnd x 61440 ≡ x / 4096 % 16 * 4096
+top-nibble x = and-high x 4 12
+
+four-masked : (a b c d : ℕ) → a < 65536 → b < 65536 → c < 65536
+    → bitAnd (((d * 65536 + c) * 65536 + b) * 65536 + a) 17294086455919964160 ≡ ((bitAnd d 61440 * 65536 + bitAnd c 61440) * 65536 + bitAnd b 61440) * 65536 + bitAnd a 61440
+four-masked a b c d ha hb hc =
+    and-block 16 ((d * 65536 + c) * 65536 + b) 263886817259520 a 61440 ha (omega arith)
+    ∙ ap (λ (z : ℕ). z * 65536 + bitAnd a 61440)
+    (and-block 16 (d * 65536 + c) 4026593280 b 61440 hb (omega arith)
+    ∙ ap (λ (z : ℕ). z * 65536 + bitAnd b 61440) (and-block 16 d 61440 c 61440 hc (omega arith)))
+
+-- the nibble on top of each of the four parts
+top-first : (q : ℕ) → q < 65536 → q / 4096 % 16 ≡ q / 4096
+top-first q h = omega arith
+
+top-second : (q : ℕ) → q * 16 % 65536 / 4096 % 16 ≡ q / 256 % 16
+top-second q = omega arith
+
+third-over : (a u v : ℕ) → a < 16 → u < 16 → v < 16 → (a + (u * 16 + v) * 256) / 4096 % 16 ≡ u
+third-over a u v ha hu hv = omega arith
+
+last-over : (a d : ℕ) → a < 4096 → d < 16 → (a + d * 4096) / 4096 % 16 ≡ d
+last-over a d ha hd = omega arith
+
+top-third : (q : ℕ) → q < 65536 → (q / 4096 + q % 256 * 256) / 4096 % 16 ≡ q / 16 % 16
+top-third q h =
+    let e : q % 256 ≡ q / 16 % 16 * 16 + q % 16 = omega arith in
+    ap (λ (r : ℕ). (q / 4096 + r * 256) / 4096 % 16) e ∙ third-over (q / 4096) (q / 16 % 16) (q % 16) (omega arith) (omega arith) (omega arith)
+
+top-last : (q : ℕ) → q < 65536 → (q / 256 + q % 16 * 4096) / 4096 % 16 ≡ q % 16
+top-last q h = last-over (q / 256) (q % 16) (omega arith) (omega arith)
+
+side-by-side : (a b c d : ℕ) → ((d * 4096 * 65536 + c * 4096) * 65536 + b * 4096) * 65536 + a * 4096 ≡ 4096 * lanes a b c d
+side-by-side a b c d = omega arith
+
+pub nibbles-are : (q : ℕ) → q < 65536 → bitAnd (q * 1099512676353 + q * 2 ^ 60 % 2 ^ 64) 17294086455919964160 ≡ 4096 * lanes (q / 4096) (q / 256 % 16) (q / 16 % 16) (q % 16)
+nibbles-are q h =
+    let b : ℕ = q * 16 % 65536 in
+    let c : ℕ = q / 4096 + q % 256 * 256 in
+    let d : ℕ = q / 256 + q % 16 * 4096 in
+    let top : q * 2 ^ 60 % 2 ^ 64 ≡ q % 16 * 1152921504606846976 = omega arith in
+    let e : q * 1099512676353 + q * 2 ^ 60 % 2 ^ 64 ≡ ((d * 65536 + c) * 65536 + b) * 65536 + q = omega (arith, top) in
+    ap (λ (z : ℕ). bitAnd z 17294086455919964160) e ∙ four-masked q b c d h (omega arith) (omega arith)
+    ∙ rw (top-nibble q, top-nibble b, top-nibble c, top-nibble d, top-first q h, top-second q, top-third q h, top-last q h) (side-by-side (q / 4096) (q / 256 % 16) (q / 16 % 16) (q % 16))
 
 -- ── the code of a sorted bucket ──
 pub grown : (N x t K : ℕ) → N ≤ 4096 → x < N → t < K → x + N * t < 4096 * K
@@ -74,13 +191,13 @@ grown N x t K h hx k = omega (arith, mul-le-mul-right t h)
 
 module _ (w a b c d : ℕ) (wide : 4 ≤ w) (most : w ≤ 16) where
   abbrev part : ℕ → ℕ
-  part v = bitAnd v (1 * 2 ^ (w - 4) % 2 ^ 16 - 1)
+  part v = bitAnd v (1 * 2 ^ (w - 4) % 2 ^ 64 - 1)
 
   pub part-is : (v : ℕ) → part v ≡ low w v
-  part-is v = masked v (w - 4) 16 (omega arith)
+  part-is v = masked v (w - 4) 64 (omega arith)
 
   pub part-below : (v : ℕ) → part v < 2 ^ (w - 4)
-  part-below v = masked-below v (w - 4) 16 (omega arith)
+  part-below v = masked-below v (w - 4) 64 (omega arith)
 
   pub part-few : 2 ^ (w - 4) ≤ 4096
   part-few = few-bits (w - 4) (omega arith)
@@ -144,21 +261,58 @@ emitted p word i h =
 pub emitted-length : (p : List ℕ) (word i : ℕ) → i ≤ length p → length (bytesOf i word ++ drop i p) ≡ length p
 emitted-length p word i h = omega (arith, length-append (bytesOf i word) (drop i p), bytes-length i word, length-drop i p)
 
+pub put-eight : (l : List ℕ) (x : ℕ) → x < 2 ^ 64 → 8 ≤ length l
+    → set (set (set (set (set (set (set (set l 0 (x % 256)) 1 (x / 256 % 256)) 2 (x / 65536 % 256)) 3 (x / 16777216 % 256)) 4 (x / 4294967296 % 256)) 5 (x / 1099511627776 % 256)) 6 (x / 281474976710656 % 256)) 7 (x / 72057594037927936)
+    ≡ bytesOf 8 x ++ drop 8 l
+put-eight (a ∷ b ∷ c ∷ d ∷ e ∷ f ∷ g ∷ h ∷ l) x k m =
+    let e2 : x / 65536 ≡ x / 256 / 256 = omega arith in
+    let e3 : x / 16777216 ≡ x / 256 / 256 / 256 = omega arith in
+    let e4 : x / 4294967296 ≡ x / 256 / 256 / 256 / 256 = omega arith in
+    let e5 : x / 1099511627776 ≡ x / 256 / 256 / 256 / 256 / 256 = omega arith in
+    let e6 : x / 281474976710656 ≡ x / 256 / 256 / 256 / 256 / 256 / 256 = omega arith in
+    let e7 : x / 72057594037927936 ≡ x / 256 / 256 / 256 / 256 / 256 / 256 / 256 % 256 = omega arith in
+    rw (e2, e3, e4, e5, e6, e7) refl
+put-eight [] x k m = absurd (omega arith)
+put-eight (a ∷ []) x k m = absurd (omega arith)
+put-eight (a ∷ b ∷ []) x k m = absurd (omega arith)
+put-eight (a ∷ b ∷ c ∷ []) x k m = absurd (omega arith)
+put-eight (a ∷ b ∷ c ∷ d ∷ []) x k m = absurd (omega arith)
+put-eight (a ∷ b ∷ c ∷ d ∷ e ∷ []) x k m = absurd (omega arith)
+put-eight (a ∷ b ∷ c ∷ d ∷ e ∷ f ∷ []) x k m = absurd (omega arith)
+put-eight (a ∷ b ∷ c ∷ d ∷ e ∷ f ∷ g ∷ []) x k m = absurd (omega arith)
+
 pub byte-past : (word i : ℕ) → word / 2 ^ (8 * i) / 256 ≡ word / 2 ^ (8 * (i + 1))
 byte-past word i =
     let e : 8 * (i + 1) ≡ 8 * i + 8 = omega arith in
     shr-shr word (8 * i) 8 ∙ ap (λ (k : ℕ). word / 2 ^ k) (sym e)
 
--- ── one byte before ──
-pub number-before : (l : List ℕ) (i : ℕ) → 0 < i → i ≤ length l → numberFrom (drop i l) * 256 + getD l (i - 1) 0 ≡ numberFrom (drop (i - 1) l)
-number-before l zero h k = absurd (omega arith)
-number-before l (suc i) h k =
-    let e : suc i - 1 ≡ i = omega arith in
-    rw (e, drop-cons l i 0) (omega arith)
+-- ── eight bytes from a place on ──
+pub past-end : (l : List ℕ) (i : ℕ) → length l ≤ i → 0 ≡ getD l i 0
+past-end [] i h = refl
+past-end (x ∷ l) zero h = absurd (omega arith)
+past-end (x ∷ l) (suc i) h = past-end l i (omega arith)
 
-pub number-few : (l : List ℕ) (i : ℕ) → AllBytes l → 0 < i → length l ≤ 8 → numberFrom (drop i l) < 2 ^ 56
-number-few l i a h k =
-    lt-of-lt-of-le (number-below (drop i l) (drop-bytes i l a)) (pow-mono {j = 56} (omega (arith, length-drop i l)))
+abbrev byEight : ℕ → ℕ → ℕ → ℕ → ℕ → ℕ → ℕ → ℕ → ℕ
+byEight a b c d e f g h = a + 256 * (b + 256 * (c + 256 * (d + 256 * (e + 256 * (f + 256 * (g + 256 * h))))))
+
+first-eight : (l : List ℕ) → byEight (getD l 0 0) (getD l 1 0) (getD l 2 0) (getD l 3 0) (getD l 4 0) (getD l 5 0) (getD l 6 0) (getD l 7 0) ≡ numberFrom (take 8 l)
+first-eight [] = refl
+first-eight (a ∷ []) = omega arith
+first-eight (a ∷ b ∷ []) = omega arith
+first-eight (a ∷ b ∷ c ∷ []) = omega arith
+first-eight (a ∷ b ∷ c ∷ d ∷ []) = omega arith
+first-eight (a ∷ b ∷ c ∷ d ∷ e ∷ []) = omega arith
+first-eight (a ∷ b ∷ c ∷ d ∷ e ∷ f ∷ []) = omega arith
+first-eight (a ∷ b ∷ c ∷ d ∷ e ∷ f ∷ g ∷ []) = omega arith
+first-eight (a ∷ b ∷ c ∷ d ∷ e ∷ f ∷ g ∷ h ∷ l) = omega arith
+
+pub eight-from : (l : List ℕ) (at : ℕ) → AllBytes l → (a b c d e f g h : ℕ) → a ≡ getD l at 0 → b ≡ getD l (at + 1) 0 → c ≡ getD l (at + 2) 0 → d ≡ getD l (at + 3) 0
+    → e ≡ getD l (at + 4) 0 → f ≡ getD l (at + 5) 0 → g ≡ getD l (at + 6) 0 → h ≡ getD l (at + 7) 0 → byEight a b c d e f g h ≡ numberFrom (drop at l) % 2 ^ 64
+eight-from l at all a b c d e f g h ea eb ec ed ee ef eg eh =
+    let none-more : at + 0 ≡ at = omega arith in
+    let s : (i : ℕ) → getD l (at + i) 0 ≡ getD (drop at l) i 0 = λ i. sym (getD-drop at l i 0) in
+    let z : getD l at 0 ≡ getD (drop at l) 0 0 = ap (λ (k : ℕ). getD l k 0) (sym none-more) ∙ s 0 in
+    rw (ea, eb, ec, ed, ee, ef, eg, eh, z, s 1, s 2, s 3, s 4, s 5, s 6, s 7) (first-eight (drop at l) ∙ number-take 8 (drop at l) (drop-bytes at l all))
 
 -- ── half bytes ──
 pub half-bits : (w m : ℕ) → bucketBits w * m ≡ 4 * ((w - 1) * m)
@@ -176,38 +330,26 @@ module _ (w b : ℕ) (bytes : List ℕ) (wide : 4 ≤ w) (most : w ≤ 16) where
   abbrev skip : ℕ
   skip = half % 2 * 4
 
-  abbrev count : ℕ
-  count = (skip + 4 * (w - 1) + 7) / 8
-
-  module _ (inside : bucketBits w * (b + 1) ≤ 8 * length bytes) where
-    pub code-end : half / 2 + count ≤ length bytes
-    code-end =
-        let e : (w - 1) * (b + 1) ≡ half + (w - 1) = ap (λ (z : ℕ). (w - 1) * z) (add-one b) ∙ mul-suc (w - 1) b in
-        omega (arith, half-bits w (b + 1))
-
-    pub code-read : AllBytes bytes → (word : ℕ) → word ≡ numberFrom (take (half / 2 + count - half / 2) (drop (half / 2) bytes))
-        → bitAnd (word / 2 ^ skip) (1 * 2 ^ (4 * (w - 1)) % 2 ^ 64 - 1) ≡ numberFrom bytes / 2 ^ (bucketBits w * b) % 2 ^ bucketBits w
-    unfolding bucketBits
-    code-read all word e =
-        let at : ℕ = half / 2 in
-        let size : ℕ = 4 * (w - 1) in
-        let x : ℕ = numberFrom bytes in
-        let y : ℕ = x / 2 ^ (8 * at) in
-        let j : ℕ = 8 * count - skip in
-        let k : ℕ = j - size in
-        let s1 : at + count - at ≡ count = omega arith in
-        let s2 : 8 * count ≡ j + skip = omega arith in
-        let s3 : j ≡ k + size = omega arith in
-        let s4 : 8 * at + skip ≡ 4 * (w - 1) * b = omega (arith, half-bits w b) in
-        let f : word ≡ y % 2 ^ (j + skip) =
-        e ∙ ap (λ (n : ℕ). numberFrom (take n (drop at bytes))) s1 ∙ number-take count (drop at bytes) (drop-bytes at bytes all)
-        ∙ ap₂ (λ (z n : ℕ). z % 2 ^ n) (sym (number-drop at bytes all)) s2 in
-        masked (word / 2 ^ skip) size 64 (omega arith)
-        ∙ ap (λ (z : ℕ). z / 2 ^ skip % 2 ^ size) f
-        ∙ ap (λ (z : ℕ). z % 2 ^ size) (field y j skip)
-        ∙ ap (λ (n : ℕ). y / 2 ^ skip % 2 ^ n % 2 ^ size) s3
-        ∙ mod-mod-pow (y / 2 ^ skip) k size
-        ∙ ap (λ (z : ℕ). z % 2 ^ size) (shr-shr x (8 * at) skip ∙ ap (λ (n : ℕ). x / 2 ^ n) s4)
+  pub code-read : AllBytes bytes → (word : ℕ) → word ≡ numberFrom (drop (half / 2) bytes) % 2 ^ 64
+      → bitAnd (word / 2 ^ skip) (1 * 2 ^ (4 * (w - 1)) % 2 ^ 64 - 1) ≡ numberFrom bytes / 2 ^ (bucketBits w * b) % 2 ^ bucketBits w
+  unfolding bucketBits
+  code-read all word e =
+      let at : ℕ = half / 2 in
+      let size : ℕ = 4 * (w - 1) in
+      let x : ℕ = numberFrom bytes in
+      let y : ℕ = x / 2 ^ (8 * at) in
+      let j : ℕ = 64 - skip in
+      let k : ℕ = j - size in
+      let s2 : 64 ≡ j + skip = omega arith in
+      let s3 : j ≡ k + size = omega arith in
+      let s4 : 8 * at + skip ≡ 4 * (w - 1) * b = omega (arith, half-bits w b) in
+      let f : word ≡ y % 2 ^ (j + skip) = e ∙ ap₂ (λ (z n : ℕ). z % 2 ^ n) (sym (number-drop at bytes all)) s2 in
+      masked (word / 2 ^ skip) size 64 (omega arith)
+      ∙ ap (λ (z : ℕ). z / 2 ^ skip % 2 ^ size) f
+      ∙ ap (λ (z : ℕ). z % 2 ^ size) (field y j skip)
+      ∙ ap (λ (n : ℕ). y / 2 ^ skip % 2 ^ n % 2 ^ size) s3
+      ∙ mod-mod-pow (y / 2 ^ skip) k size
+      ∙ ap (λ (z : ℕ). z % 2 ^ size) (shr-shr x (8 * at) skip ∙ ap (λ (n : ℕ). x / 2 ^ n) s4)
 
 -- ── a bucket from its number ──
 pub row-read : (l : List ℕ) (r : ℕ) → l ≡ rows → getD l r 0 ≡ quadrupleAt r
@@ -228,6 +370,94 @@ bucket-is w code l e a b c d ea eb ec ed =
     let z0 : (w - 4) * 0 ≡ 0 = omega arith in
     let z1 : (w - 4) * 1 ≡ w - 4 = omega arith in
     rw (ea, eb, ec, ed, row-read l (code % 4096) e, z0, z1, div-one (code / 4096)) refl
+
+-- the four side by side in a word
+lanes-times : (p a b c d : ℕ) → p * lanes a b c d ≡ lanes (a * p) (b * p) (c * p) (d * p)
+lanes-times p a b c d =
+    let k : ℕ = c + 65536 * d in
+    let j : ℕ = b + 65536 * k in
+    omega (
+      arith,
+      mul-add p a (65536 * j),
+      sym (mul-assoc p 65536 j),
+      ap (λ (z : ℕ). z * j) (mul-comm p 65536),
+      mul-assoc 65536 p j,
+      mul-add p b (65536 * k),
+      sym (mul-assoc p 65536 k),
+      ap (λ (z : ℕ). z * k) (mul-comm p 65536),
+      mul-assoc 65536 p k,
+      mul-add p c (65536 * d),
+      sym (mul-assoc p 65536 d),
+      ap (λ (z : ℕ). z * d) (mul-comm p 65536),
+      mul-assoc 65536 p d,
+      mul-comm p a,
+      mul-comm p b,
+      mul-comm p c,
+      mul-comm p d,
+    )
+
+module _ (w code : ℕ) (l : List ℕ) (table : l ≡ rows) (wide : 4 ≤ w) (most : w ≤ 16) (row : code % 4096 < 3876) (up low : ℕ) where
+  abbrev q : ℕ
+  q = getD l (code % 4096) 0
+
+  abbrev p : ℕ
+  p = 2 ^ (w - 4)
+
+  abbrev x : ℕ
+  x = code / 4096
+
+  module _ (ups : up ≡ 4096 * lanes (q / 4096) (q / 256 % 16) (q / 16 % 16) (q % 16)) (lows : low ≡ lanes (x % p) (x / p % p) (x / 2 ^ ((w - 4) * 2) % p) (x / 2 ^ ((w - 4) * 3) % p)) where
+    abbrev all : ℕ
+    all = up / 2 ^ (16 - w) + low
+
+    cell : ℕ → ℕ → ℕ
+    cell n y = n * p + y % p
+
+    cell-fits : (n y : ℕ) → n < 16 → cell n y < 65536
+    unfolding cell
+    cell-fits n y h =
+        let e : n * p ≤ 15 * p = mul-le-mul-right p (omega arith) in
+        omega (arith, mod-lt y (pow-pos (w - 4)), few-bits (w - 4) (omega arith))
+
+    ups-moved : up / 2 ^ (16 - w) ≡ p * lanes (q / 4096) (q / 256 % 16) (q / 16 % 16) (q % 16)
+    ups-moved =
+        let n : ℕ = lanes (q / 4096) (q / 256 % 16) (q / 16 % 16) (q % 16) in
+        let k : ℕ = 2 ^ (16 - w) in
+        let e : 16 - w + (w - 4) ≡ 12 = omega arith in
+        let f : k * p ≡ 4096 = sym (pow-add 2 (16 - w) (w - 4)) ∙ ap (λ (i : ℕ). 2 ^ i) e in
+        let g : up ≡ 0 + k * (p * n) = ups ∙ ap (λ (z : ℕ). z * n) (sym f) ∙ mul-assoc k p n ∙ omega arith in
+        ap (λ (z : ℕ). z / k) g ∙ digit-rest k 0 (p * n) (pow-pos (16 - w))
+
+    all-is : all ≡ lanes (cell (q / 4096) x) (cell (q / 256 % 16) (x / p)) (cell (q / 16 % 16) (x / 2 ^ ((w - 4) * 2))) (cell (q % 16) (x / 2 ^ ((w - 4) * 3)))
+    unfolding cell
+    all-is = omega (arith, ups-moved, lanes-times p (q / 4096) (q / 256 % 16) (q / 16 % 16) (q % 16), lows)
+
+    first-fits : cell (q / 4096) x < 65536
+    first-fits = cell-fits (q / 4096) x (nibble-read l (code % 4096) table row)
+
+    second-fits : cell (q / 256 % 16) (x / p) < 65536
+    second-fits = cell-fits (q / 256 % 16) (x / p) (omega arith)
+
+    third-fits : cell (q / 16 % 16) (x / 2 ^ ((w - 4) * 2)) < 65536
+    third-fits = cell-fits (q / 16 % 16) (x / 2 ^ ((w - 4) * 2)) (omega arith)
+
+    last-fits : cell (q % 16) (x / 2 ^ ((w - 4) * 3)) < 65536
+    last-fits = cell-fits (q % 16) (x / 2 ^ ((w - 4) * 3)) (omega arith)
+
+    pub all-fits : all < 2 ^ 64
+    all-fits = omega (arith, all-is, first-fits, second-fits, third-fits, last-fits)
+
+    pub top-fits : all / 281474976710656 < 65536
+    top-fits = omega (arith, all-fits)
+
+    pub cells-are : all % 65536 ∷ all / 65536 % 65536 ∷ all / 4294967296 % 65536 ∷ all / 281474976710656 ∷ [] ≡ bucketFrom w code
+    unfolding cell
+    cells-are =
+        bucket-is w code l table (all % 65536) (all / 65536 % 65536) (all / 4294967296 % 65536) (all / 281474976710656)
+        (omega (arith, all-is, first-fits, second-fits, third-fits, last-fits))
+        (omega (arith, all-is, first-fits, second-fits, third-fits, last-fits))
+        (omega (arith, all-is, first-fits, second-fits, third-fits, last-fits))
+        (omega (arith, all-is, first-fits, second-fits, third-fits, last-fits))
 
 -- ── the filling ──
 pub some-bytes : (s : Settings) → 4 ≤ s .width → 0 < s .buckets → 1 ≤ packedLength s
@@ -315,12 +545,40 @@ module _ (w : ℕ) (t : List ℕ) (i : ℕ) where
             ∙ ap (λ (x : ℕ). x + 2 ^ bucketBits w * streamOf w (sortBuckets (drop (i + 4) t))) (sym (z ∙ ap (λ (l : List ℕ). codeOf w (getD l 0 0) (getD l 1 0) (getD l 2 0) (getD l 3 0)) q)),
       )
 
--- ── a cell that does not fit, looked for from the front ──
-pub any-here : (n : ℕ) (l : List ℕ) (i : ℕ) → i < length l → n ≤ getD l i 0 → anyFrom n (drop i l) ≡ true
-any-here n l i h k = rw (drop-cons l i 0 h, le-leb n (getD l i 0) k) refl
+-- ── a cell that does not fit: what stands above the width, added up ──
+abbrev pub found : ℕ → Bool
+found over = not (eqb over 0)
 
-pub any-next : (n : ℕ) (l : List ℕ) (i : ℕ) → i < length l → getD l i 0 < n → anyFrom n (drop (i + 1) l) ≡ anyFrom n (drop i l)
-any-next n l i h k = rw (add-one, drop-cons l i 0 h, lt-leb n (getD l i 0) k) refl
+some-found : (over : ℕ) → 0 < over → found over ≡ true
+some-found over h = ap not (ne-eqb over 0 (omega arith))
+
+or-true : (t s : Bool) → true ≡ (t || (true || s))
+or-true true s = refl
+or-true false s = refl
+
+pub over-none : (t : Bool) → t ≡ (t || false)
+over-none true = refl
+over-none false = refl
+
+pub over-few : (w v : ℕ) → 4 ≤ w → v < 65536 → v / 2 ^ w < 4096
+over-few w v h k = quotient-below (2 ^ w) 4096 v (omega (arith, mul-le-mul-right 4096 (pow-mono {i = 4} {j = w} h))) (pow-pos w)
+
+over-some : (v n : ℕ) → 0 < n → n ≤ v → 0 < v / n
+over-some v n p h = elim (decLe 1 (v / n)) [
+  | yes k ↦ k
+  | no k ↦ absurd (let z : v / n ≡ 0 = omega arith in omega (arith, mod-lt v p, ap (λ (q : ℕ). q * n) z, div-add-mod' v n))
+]
+
+pub over-next : (w : ℕ) (l : List ℕ) (i over : ℕ) → i < length l
+    → (found (over + getD l i 0 / 2 ^ w) || anyFrom (2 ^ w) (drop (i + 1) l)) ≡ (found over || anyFrom (2 ^ w) (drop i l))
+over-next w l i over h = elim (decLe (2 ^ w) (getD l i 0)) [
+  | yes k ↦ rw (add-one, drop-cons l i 0 h, le-leb (2 ^ w) (getD l i 0) k, some-found (over + getD l i 0 / 2 ^ w) (omega (arith, over-some (getD l i 0) (2 ^ w) (pow-pos w) k))) (or-true (found over) (anyFrom (2 ^ w) (drop (suc i) l)))
+  | no k ↦ (
+      let y : getD l i 0 / 2 ^ w ≡ 0 = div-eq-of-lt (omega arith) in
+      let z : over + getD l i 0 / 2 ^ w ≡ over = omega arith in
+      rw (add-one, drop-cons l i 0 h, lt-leb (2 ^ w) (getD l i 0) (omega arith), z) refl
+      )
+]
 
 -- ── a part from a place to the end ──
 pub tail-whole : (l : List ℕ) (at : ℕ) → take (length l - at) (drop at l) ≡ drop at l

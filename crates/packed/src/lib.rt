@@ -5,11 +5,11 @@ ghost use mathlib.Core.List.{[], _∷_, _++_};
 ghost use mathlib.Core.Option.{none};
 ghost use Prim.Native.Nat.{_+_, _*_, _-_, _/_, _%_, _^_, _<_, _≤_, min, max};
 ghost use lib.Dec.{eqb};
-ghost use lib.ListN.{length, drop};
+ghost use lib.ListN.{length, getD, take, drop};
 ghost use Rattle.lemmas.specs.Bytes.{bytesOf, numberFrom};
 ghost use Rattle.index.specs.Checks.{firstMet, unless};
 ghost use Rattle.index.specs.Settings.{settingsRefusal};
-ghost use Rattle.rows.specs.Rows.{rows as allRows, Ascends};
+ghost use Rattle.rows.specs.Rows.{rows as allRows, larger, Ascends};
 ghost use Rattle.table.specs.Writing.{anyFrom};
 ghost use Rattle.packed.specs.Writer.{sort4, sortBuckets, codeOf, bucketBits, streamOf, packedLength, packedOf, writePacked};
 ghost use Rattle.packed.specs.Reader.{bucketFrom, descends, codeChecks, filledCount, unpack, readOut, readPacked};
@@ -30,20 +30,20 @@ pub enum UnpackAnswer {
     Refused(u32),
 }
 
-fn lesser(x: u16, y: u16) -> u16
+fn lesser(x: u64, y: u64) -> u64
     ensures { λ r. ⌜ r ≡ min x y ⌝ }
 {
     if x < y { x } else { y }
 }
 
-fn greater(x: u16, y: u16) -> u16
+fn greater(x: u64, y: u64) -> u64
     ensures { λ r. ⌜ r ≡ max x y ⌝ }
 {
     if x < y { y } else { x }
 }
 
 // A bucket's cells in ascending order.
-fn sorted(a: u16, b: u16, c: u16, d: u16) -> [u16; 4]
+fn sorted(a: u64, b: u64, c: u64, d: u64) -> [u64; 4]
     ensures { λ r. ⌜ r ≡ sort4 a b c d ⌝ }
 {
     let low = lesser(a, b);
@@ -61,41 +61,44 @@ fn sorted(a: u16, b: u16, c: u16, d: u16) -> [u16; 4]
 }
 
 // x with n bits put below it.
-fn above(x: u64, n: u32, low: u16) -> u64
+fn above(x: u64, n: u32, low: u64) -> u64
     requires { ⌜ (x < 2 ^ 36) × (n ≤ 12) × (low < 2 ^ n) ⌝ }
     ensures { λ r. ⌜ r ≡ low + 2 ^ n * x ⌝ }
 {
-    (x << n) + (low as u64)
+    (x << n) + low
 }
 
 // A sorted bucket as a number: its row, and above that the four low parts.
-fn code_of(w: u32, a: u16, b: u16, c: u16, d: u16) -> u64
-    requires { ⌜ (4 ≤ w) × (w ≤ 16) × Ascends a b c d × (d < 2 ^ w) ⌝ }
+fn code_of(counts: &[u16; 48], w: u32, a: u64, b: u64, c: u64, d: u64) -> u64
+    requires { ⌜ (now counts ≡ larger) × (4 ≤ w) × (w ≤ 16) × Ascends a b c d × (d < 2 ^ w) ⌝ }
     ensures { λ r. ⌜ r ≡ codeOf w a b c d ⌝ }
 {
     let n = w - 4;
-    let row = rows::row_of(a >> n, b >> n, c >> n, d >> n);
-    let mask = (1u16 << n) - 1;
-    let one = (d & mask) as u64;
-    let two = above(one, n, c & mask);
+    let row = rows::row_from(counts, a >> n, b >> n, c >> n, d >> n);
+    let mask = (1u64 << n) - 1;
+    let two = above(d & mask, n, c & mask);
     let three = above(two, n, b & mask);
     let four = above(three, n, a & mask);
-    four * 4096 + (row as u64)
+    four * 4096 + row
 }
 
 // The number of the bucket that starts at a cell, once it is sorted.
-fn bucket_code(w: u32, table: &[u16], at: usize) -> u64
-    requires { ⌜ (4 ≤ w) × (w ≤ 16) × (at + 4 ≤ length (now table)) × (anyFrom (2 ^ w) (now table) ≡ false) ⌝ }
+fn bucket_code(counts: &[u16; 48], w: u32, table: &[u16], at: usize) -> u64
+    requires { ⌜ (now counts ≡ larger) × (4 ≤ w) × (w ≤ 16) × (at + 4 ≤ length (now table)) × (anyFrom (2 ^ w) (now table) ≡ false) ⌝ }
     ensures { λ r. ⌜ (r < 2 ^ bucketBits w) × (streamOf w (sortBuckets (drop at (now (table .entry)))) ≡ r + 2 ^ bucketBits w * streamOf w (sortBuckets (drop (at + 4) (now (table .entry))))) ⌝ }
 {
-    let f = sorted(table[at], table[at + 1], table[at + 2], table[at + 3]);
-    code_of(w, f[0], f[1], f[2], f[3])
+    let a = table[at] as u64;
+    let b = table[at + 1] as u64;
+    let c = table[at + 2] as u64;
+    let d = table[at + 3] as u64;
+    let f = sorted(a, b, c, d);
+    code_of(counts, w, f[0], f[1], f[2], f[3])
 }
 
-// The low bytes of a word, to the start of a part of the output. The answer is what is left of the word.
-fn emit(part: &mut [u8], word: u64, count: usize) -> u64
+// The low bytes of a word, to the start of a part of the output.
+fn emit(part: &mut [u8], word: u64, count: usize)
     requires { ⌜ count ≤ length (now part) ⌝ }
-    ensures { λ r. ⌜ (r ≡ word / 2 ^ (8 * count)) × (now (part .exit) ≡ bytesOf count word ++ drop count (now (part .entry))) ⌝ }
+    ensures { λ r. ⌜ now (part .exit) ≡ bytesOf count word ++ drop count (now (part .entry)) ⌝ }
 {
     let mut x = word;
     let mut i = 0;
@@ -104,49 +107,84 @@ fn emit(part: &mut [u8], word: u64, count: usize) -> u64
         x = x / 256;
         i += 1;
     }
-    x
 }
 
-// Every bucket, sorted, to the output. A bucket takes whole half bytes, so that 0 or 4 bits are carried
-// from one to the next, and with them it fits a word.
+// All the bytes of a word: in a row, they become one store.
+fn emit_word(part: &mut [u8], word: u64)
+    requires { ⌜ 8 ≤ length (now part) ⌝ }
+    ensures { λ r. ⌜ now (part .exit) ≡ bytesOf 8 word ++ drop 8 (now (part .entry)) ⌝ }
+{
+    part[0] = (word % 256) as u8;
+    part[1] = (word / 256 % 256) as u8;
+    part[2] = (word / 65536 % 256) as u8;
+    part[3] = (word / 16777216 % 256) as u8;
+    part[4] = (word / 4294967296 % 256) as u8;
+    part[5] = (word / 1099511627776 % 256) as u8;
+    part[6] = (word / 281474976710656 % 256) as u8;
+    part[7] = (word / 72057594037927936) as u8;
+}
+
+// Two buckets to the output: they take w − 1 whole bytes. While there is room, words are stored, whose
+// bytes past the two buckets belong to later ones; what stands past the room stays.
+fn write_pair(out: &mut [u8], room: usize, at: usize, w: u32, one: u64, two: u64)
+    requires { ⌜ (4 ≤ w) × (w ≤ 16) × (at + (w - 1) ≤ room) × (room ≤ length (now out)) × (room < 2 ^ 32) × (one < 2 ^ bucketBits w) × (two < 2 ^ bucketBits w) ⌝ }
+    ensures { λ r. ⌜ (take (at + (w - 1)) (now (out .exit)) ≡ take at (now (out .entry)) ++ bytesOf (w - 1) (one + 2 ^ bucketBits w * two)) × (drop room (now (out .exit)) ≡ drop room (now (out .entry))) ⌝ }
+{
+    let half = (w - 1) / 2;
+    let skip = (w - 1) % 2 * 4;
+    let first = half as usize;
+    let last = (w - 1 - half) as usize;
+    let next = at + first;
+    let rest = (one >> (half * 8)) + (two << skip);
+    if next + 8 <= room {
+        emit_word(&mut out[at..], one);
+        emit_word(&mut out[next..], rest);
+        return;
+    }
+    emit(&mut out[at..], one, first);
+    emit(&mut out[next..], rest, last);
+}
+
+// Every bucket, sorted, to the output, two at a time.
 fn write_buckets(s: Settings, table: &[u16], out: &mut [u8]) -> usize
     requires { ⌜ Packable s (now table) × (packedLength s ≤ length (now out)) ⌝ }
     ensures { λ r. ⌜ (r ≡ packedLength s) × (now (out .exit) ≡ packedOf s (now (table .entry)) ++ drop (packedLength s) (now (out .entry))) ⌝ }
 {
     let w = s.width;
     let m = s.buckets as usize;
-    let size = 4 * (w - 1);
+    let step = (w - 1) as usize;
+    let room = packed_length(s);
+    let counts = rows::counts();
     let mut at = 0;
-    let mut word = 0u64;
-    let mut bits = 0u32;
     let mut b = 0;
-    while b < m {
-        let code = bucket_code(w, table, 4 * b);
-        let count = ((bits + size) / 8) as usize;
-        word = emit(&mut out[at..], word + (code << bits), count);
-        bits = (bits + size) % 8;
-        at += count;
-        b += 1;
+    while b + 1 < m {
+        let one = bucket_code(&counts, w, table, 4 * b);
+        let two = bucket_code(&counts, w, table, 4 * b + 4);
+        write_pair(out, room, at, w, one, two);
+        at += step;
+        b += 2;
     }
-    let last = ((bits + 7) / 8) as usize;
-    emit(&mut out[at..], word, last);
-    at + last
+    if b < m {
+        let one = bucket_code(&counts, w, table, 4 * b);
+        let last = (step + 1) / 2;
+        emit(&mut out[at..], one, last);
+        return room;
+    }
+    room
 }
 
-// Whether some cell does not fit the width.
+// Whether some cell does not fit the width: what stands above it is added up over all cells.
 fn too_wide(w: u32, table: &[u16]) -> bool
-    requires { ⌜ w ≤ 16 ⌝ }
+    requires { ⌜ (4 ≤ w) × (w ≤ 16) × (length (now table) ≤ 262144) ⌝ }
     ensures { λ r. ⌜ r ≡ anyFrom (2 ^ w) (now (table .entry)) ⌝ }
 {
-    let limit = 1u32 << w;
+    let mut over = 0u32;
     let mut i = 0;
     while i < table.len() {
-        if (table[i] as u32) >= limit {
-            return true;
-        }
+        over += (table[i] as u32) >> w;
         i += 1;
     }
-    false
+    over != 0
 }
 
 // How many bytes the buckets take.
@@ -182,24 +220,53 @@ pub fn write(s: Settings, table: &[u16], out: &mut [u8]) -> PackAnswer
     PackAnswer::Packed(write_buckets(s, table, out))
 }
 
-fn wide(x: u8) -> u64
-    ensures { λ r. ⌜ r ≡ x ⌝ }
+// The number of eight bytes, the first lowest.
+fn number(a: u8, b: u8, c: u8, d: u8, e: u8, f: u8, g: u8, h: u8) -> u64
+    ensures { λ r. ⌜ r ≡ a + 256 * (b + 256 * (c + 256 * (d + 256 * (e + 256 * (f + 256 * (g + 256 * h)))))) ⌝ }
 {
-    x as u64
+    let low = (a as u64) + (b as u64) * 256 + (c as u64) * 65536 + (d as u64) * 16777216;
+    low
+        + (e as u64) * 4294967296
+        + (f as u64) * 1099511627776
+        + (g as u64) * 281474976710656
+        + (h as u64) * 72057594037927936
 }
 
-// The number whose bytes these are, the first lowest.
-fn number(part: &[u8]) -> u64
-    requires { ⌜ length (now part) ≤ 8 ⌝ }
-    ensures { λ r. ⌜ r ≡ numberFrom (now (part .entry)) ⌝ }
+// A byte, or 0 past the end.
+fn byte_or(bytes: &[u8], i: usize) -> u8
+    ensures { λ r. ⌜ r ≡ getD (now (bytes .entry)) i 0 ⌝ }
 {
-    let mut word = 0u64;
-    let mut i = part.len();
-    while i > 0 {
-        i -= 1;
-        word = word * 256 + wide(part[i]);
+    if i < bytes.len() { bytes[i] } else { 0 }
+}
+
+// The number of the eight bytes from a place on, or of as many as there are. Where there are eight, their
+// reads become one.
+fn word_at(bytes: &[u8], at: usize) -> u64
+    requires { ⌜ at < 2 ^ 32 ⌝ }
+    ensures { λ r. ⌜ r ≡ numberFrom (drop at (now (bytes .entry))) % 2 ^ 64 ⌝ }
+{
+    if at + 8 <= bytes.len() {
+        return number(
+            bytes[at],
+            bytes[at + 1],
+            bytes[at + 2],
+            bytes[at + 3],
+            bytes[at + 4],
+            bytes[at + 5],
+            bytes[at + 6],
+            bytes[at + 7],
+        );
     }
-    word
+    number(
+        byte_or(bytes, at),
+        byte_or(bytes, at + 1),
+        byte_or(bytes, at + 2),
+        byte_or(bytes, at + 3),
+        byte_or(bytes, at + 4),
+        byte_or(bytes, at + 5),
+        byte_or(bytes, at + 6),
+        byte_or(bytes, at + 7),
+    )
 }
 
 // The number of bucket b, from the bytes in which it lies.
@@ -211,34 +278,47 @@ fn code_at(w: u32, bytes: &[u8], b: usize) -> u64
     let at = half / 2;
     let skip = ((half % 2) as u32) * 4;
     let size = 4 * (w - 1);
-    let end = at + ((skip + size + 7) / 8) as usize;
-    let word = number(&bytes[at..end]);
+    let word = word_at(bytes, at);
     (word >> skip) & ((1u64 << size) - 1)
 }
 
-// A fingerprint of a high nibble and n low bits, the lowest of x.
-fn join(nibble: u16, n: u32, x: u64) -> u16
-    requires { ⌜ (nibble < 16) × (n ≤ 12) ⌝ }
-    ensures { λ r. ⌜ r ≡ nibble * 2 ^ n + x % 2 ^ n ⌝ }
+// A quadruple's nibbles, each as the highest of a word's 16 bits, the first lowest. The product has the
+// quadruple four times, 20 bits apart, so that the nibbles stand right and the mask takes them out.
+fn nibbles(q: u16) -> u64
+    ensures { λ r. ⌜ r ≡ 4096 * (q / 4096 + 65536 * (q / 256 % 16 + 65536 * (q / 16 % 16 + 65536 * (q % 16)))) ⌝ }
 {
-    let low = (x & ((1u64 << n) - 1)) as u16;
-    (nibble << n) + low
+    let x = q as u64;
+    (x * 1099512676353 + (x << 60)) & 17294086455919964160
 }
 
-// The four fingerprints of a bucket's number.
+// The four fields of n bits of a number, 16 bits each: first two and two are moved apart, then all four.
+fn fields(n: u32, x: u64) -> u64
+    requires { ⌜ n ≤ 12 ⌝ }
+    ensures { λ r. ⌜ r ≡ x % 2 ^ n + 65536 * (x / 2 ^ n % 2 ^ n + 65536 * (x / 2 ^ (n * 2) % 2 ^ n + 65536 * (x / 2 ^ (n * 3) % 2 ^ n))) ⌝ }
+{
+    let half = n * 2;
+    let both = (1u64 << half) - 1;
+    let one = (1u64 << n) - 1;
+    let pairs = (x & both) + ((x >> half) & both) * 4294967296;
+    let lower = pairs & (one * 4294967297);
+    lower + ((pairs - lower) << (16 - n))
+}
+
+// The four fingerprints of a bucket's number, made side by side in one word.
 fn bucket_from(quads: &[u16; 3876], w: u32, code: u64) -> [u16; 4]
     requires { ⌜ (now quads ≡ allRows) × (4 ≤ w) × (w ≤ 16) × (code % 4096 < 3876) ⌝ }
     ensures { λ r. ⌜ r ≡ bucketFrom w code ⌝ }
 {
-    let n = w - 4;
     let row = (code % 4096) as usize;
-    let q = quads[row];
-    let x = code / 4096;
-    let a = join(q / 4096, n, x);
-    let b = join(q / 256 % 16, n, x >> n);
-    let c = join(q / 16 % 16, n, x >> (n * 2));
-    let d = join(q % 16, n, x >> (n * 3));
-    [a, b, c, d]
+    let high = nibbles(quads[row]);
+    let low = fields(w - 4, code / 4096);
+    let all = (high >> (16 - w)) + low;
+    [
+        (all % 65536) as u16,
+        (all / 65536 % 65536) as u16,
+        (all / 4294967296 % 65536) as u16,
+        (all / 281474976710656) as u16,
+    ]
 }
 
 // Whether one of four values is above the next.

@@ -77,6 +77,10 @@ largerSecond = 680 ∷ 560 ∷ 455 ∷ 364 ∷ 286 ∷ 220 ∷ 165 ∷ 120 ∷ 8
 abbrev pub largerThird : List ℕ
 largerThird = 120 ∷ 105 ∷ 91 ∷ 78 ∷ 66 ∷ 55 ∷ 45 ∷ 36 ∷ 28 ∷ 21 ∷ 15 ∷ 10 ∷ 6 ∷ 3 ∷ 1 ∷ 0 ∷ []
 
+-- the three one after the other
+abbrev pub larger : List ℕ
+larger = largerFirst ++ (largerSecond ++ largerThird)
+
 -- how many rows come after four nibbles
 abbrev pub after : ℕ → ℕ → ℕ → ℕ → ℕ
 after a b c d = getD largerFirst a 0 + getD largerSecond b 0 + getD largerThird c 0 + (15 - d)

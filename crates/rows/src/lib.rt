@@ -1,7 +1,8 @@
 // The rows of the packed form: every ascending quadruple of nibbles in dictionary order, as a constant
 // table, and the row of a quadruple.
 ghost use mathlib.Core.Path.{_≡_};
-ghost use Rattle.rows.specs.Rows.{rows, rankOf};
+ghost use Rattle.rows.specs.Rows.{rows, larger, rankOf};
+ghost use Prim.Native.Nat.{_<_};
 
 // The table. A constant array is copied where it is used, so that a caller with many rows to look up
 // takes it once and lends it.
@@ -11,19 +12,46 @@ pub fn table() -> [u16; 3876]
     ROWS
 }
 
+// The counts by which a row is found, also to be taken once and lent.
+pub fn counts() -> [u16; 48]
+    ensures { λ r. ⌜ r ≡ larger ⌝ }
+{
+    LARGER
+}
+
 // The row of an ascending quadruple of nibbles, by counting from the end: the rows whose first nibble is
 // larger, those that have the same first and a larger second, and so on.
+pub fn row_from(counts: &[u16; 48], a: u64, b: u64, c: u64, d: u64) -> u64
+    requires { ⌜ (now counts ≡ larger) × (a < 16) × (b < 16) × (c < 16) × (d < 16) ⌝ }
+    ensures { λ r. ⌜ r ≡ rankOf a b c d ⌝ }
+{
+    let i = a as usize;
+    let j = (b + 16) as usize;
+    let k = (c + 32) as usize;
+    let first = counts[i] as u64;
+    let second = counts[j] as u64;
+    let third = counts[k] as u64;
+    3860 + d - first - second - third
+}
+
+// The same with the counts taken here, for any four numbers.
 pub fn row_of(a: u16, b: u16, c: u16, d: u16) -> u16
     ensures { λ r. ⌜ r ≡ rankOf a b c d ⌝ }
 {
-    let first = LARGER_FIRST[(a % 16) as usize];
-    let second = LARGER_SECOND[(b % 16) as usize];
-    let third = LARGER_THIRD[(c % 16) as usize];
-    3875 - first - second - third - (15 - d % 16)
+    let all = counts();
+    let row = row_from(
+        &all,
+        (a % 16) as u64,
+        (b % 16) as u64,
+        (c % 16) as u64,
+        (d % 16) as u64,
+    );
+    row as u16
 }
 
-// How many rows have a first nibble above the index.
-const LARGER_FIRST: [u16; 16] = [
+// How many rows have a first nibble above the index; then how many rows with one first nibble have a
+// second above it; then how many with one first and second have a third above it.
+const LARGER: [u16; 48] = [
     3060,
     2380,
     1820,
@@ -40,10 +68,6 @@ const LARGER_FIRST: [u16; 16] = [
     5,
     1,
     0,
-];
-
-// How many rows with one first nibble have a second above the index.
-const LARGER_SECOND: [u16; 16] = [
     680,
     560,
     455,
@@ -60,10 +84,23 @@ const LARGER_SECOND: [u16; 16] = [
     4,
     1,
     0,
+    120,
+    105,
+    91,
+    78,
+    66,
+    55,
+    45,
+    36,
+    28,
+    21,
+    15,
+    10,
+    6,
+    3,
+    1,
+    0,
 ];
-
-// How many rows with one first and second nibble have a third above the index.
-const LARGER_THIRD: [u16; 16] = [120, 105, 91, 78, 66, 55, 45, 36, 28, 21, 15, 10, 6, 3, 1, 0];
 
 // A nibble each, the first nibble highest: dictionary order is the order of numbers.
 const ROWS: [u16; 3876] = [

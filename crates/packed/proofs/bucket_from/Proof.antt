@@ -1,75 +1,65 @@
-use Prim.Native.Nat.{_%_}
+use Rattle.packed.proofs.Computes.{all-fits, top-fits, cells-are}
 use borrow.Author.Needs.{needs}
-use native.Mathlib.Omega.{arith}
-use Rattle.packed.proofs.Computes.{nibble-read, bucket-is}
 use Rattle.packed.proofs.bucket_from.Statement.{statement}
 use Rattle.packed.proofs.bucket_from.Tie as tie
 
-sub-n : tie.Need-sub-n
-sub-n c = search needs
+mul-nibbles : tie.Need-mul-nibbles
+mul-nibbles c = search needs
 
-mul-q : tie.Need-mul-q
-mul-q c = search needs
+element-copy-out-nibbles : tie.Need-element-copy-out-nibbles
+element-copy-out-nibbles c = search needs
 
-element-copy-out-q : tie.Need-element-copy-out-q
-element-copy-out-q c = search needs
+nibbles-requires : tie.Need-nibbles-requires
+nibbles-requires c κs = search needs
 
-join-requires : tie.Need-join-requires
-join-requires c κs = (nibble-read (c .before .args .quads .now) (c .before .args .code % 4096) (c .before .pre .0) (c .before .pre .3), omega arith)
+sub-fields : tie.Need-sub-fields
+sub-fields c = search needs
 
-cast-join : tie.Need-cast-join
-cast-join c = search needs
+fields-requires : tie.Need-fields-requires
+fields-requires c κs = search needs
 
-shr-join : tie.Need-shr-join
-shr-join c = search needs
+sub-all : tie.Need-sub-all
+sub-all c = search needs
 
-join-requires-2 : tie.Need-join-requires-2
-join-requires-2 c κs = search needs
+cast-all : tie.Need-cast-all
+cast-all c = search needs
 
-mul-join : tie.Need-mul-join
-mul-join c = search needs
+shr-all : tie.Need-shr-all
+shr-all c = search needs
 
-cast-join-2 : tie.Need-cast-join-2
-cast-join-2 c = search needs
+add-all : tie.Need-add-all
+add-all c = record { fits = all-fits (c .before .before .before .args .w) (c .before .before .before .args .code) (c .before .before .before .args .quads .now) (c .before .before .before .pre .0) (c .before .before .before .pre .1) (c .before .before .before .pre .2) (c .before .before .before .pre .3) (c .before .nibbles .result) (c .fields .result) (c .before .nibbles .ensures) (c .fields .ensures) }
 
-shr-join-2 : tie.Need-shr-join-2
-shr-join-2 c = search needs
+cast-t12 : tie.Need-cast-t12
+cast-t12 c = search needs
 
-join-requires-3 : tie.Need-join-requires-3
-join-requires-3 c κs = search needs
+cast-t16 : tie.Need-cast-t16
+cast-t16 c = search needs
 
-mul-join-2 : tie.Need-mul-join-2
-mul-join-2 c = search needs
+cast-t19 : tie.Need-cast-t19
+cast-t19 c = search needs
 
-cast-join-3 : tie.Need-cast-join-3
-cast-join-3 c = search needs
-
-shr-join-3 : tie.Need-shr-join-3
-shr-join-3 c = search needs
-
-join-requires-4 : tie.Need-join-requires-4
-join-requires-4 c κs = search needs
+cast-t21 : tie.Need-cast-t21
+cast-t21 c = record { fits = top-fits (c .before .before .before .args .w) (c .before .before .before .args .code) (c .before .before .before .args .quads .now) (c .before .before .before .pre .0) (c .before .before .before .pre .1) (c .before .before .before .pre .2) (c .before .before .before .pre .3) (c .before .nibbles .result) (c .fields .result) (c .before .nibbles .ensures) (c .fields .ensures) }
 
 returns : tie.Need-returns
-returns c = let s = c .before .before .before .before .before in bucket-is (s .args .w) (s .args .code) (s .args .quads .now) (s .pre .0) (c .before .before .before .join .result) (c .before .before .join2 .result) (c .before .join3 .result) (c .join4 .result) (c .before .before .before .join .ensures) (c .before .before .join2 .ensures) (c .before .join3 .ensures) (c .join4 .ensures)
+returns c = cells-are (c .before .before .before .args .w) (c .before .before .before .args .code) (c .before .before .before .args .quads .now) (c .before .before .before .pre .0) (c .before .before .before .pre .1) (c .before .before .before .pre .2) (c .before .before .before .pre .3) (c .before .nibbles .result) (c .fields .result) (c .before .nibbles .ensures) (c .fields .ensures)
 
 pub bucket-from-spec : {M : Type 1} → statement M
 bucket-from-spec =
     tie.close
     (tie.spec
-    sub-n
-    mul-q
-    element-copy-out-q
-    join-requires
-    cast-join
-    shr-join
-    join-requires-2
-    mul-join
-    cast-join-2
-    shr-join-2
-    join-requires-3
-    mul-join-2
-    cast-join-3
-    shr-join-3
-    join-requires-4
+    mul-nibbles
+    element-copy-out-nibbles
+    nibbles-requires
+    sub-fields
+    fields-requires
+    sub-all
+    cast-all
+    shr-all
+    add-all
+    cast-t12
+    cast-t16
+    cast-t19
+    cast-t21
     returns)

@@ -1,8 +1,8 @@
 use Prim.Native.Nat.{_*_, _-_}
-use borrow.Author.Needs.{needs}
 use native.Mathlib.Omega.{arith}
 use Rattle.lemmas.proofs.Bytes.{all-bytes}
-use Rattle.packed.proofs.Computes.{half-fits, code-end, shifted-one, code-read}
+use Rattle.packed.proofs.Computes.{half-fits, shifted-one, code-read}
+use borrow.Author.Needs.{needs}
 use Rattle.packed.proofs.code_at.Statement.{statement}
 use Rattle.packed.proofs.code_at.Tie as tie
 
@@ -27,29 +27,8 @@ sub-size c = search needs
 mul-size : tie.Need-mul-size
 mul-size c = search needs
 
-add-end : tie.Need-add-end
-add-end c = search needs
-
-add-end-2 : tie.Need-add-end-2
-add-end-2 c = search needs
-
-cast-end : tie.Need-cast-end
-cast-end c = search needs
-
-add-end-3 : tie.Need-add-end-3
-add-end-3 c = omega (arith, half-fits (c .before .args .w) (c .before .args .b) (c .before .pre .1) (omega arith))
-
-sub-number : tie.Need-sub-number
-sub-number c = search needs
-
-part-number-start : tie.Need-part-number-start
-part-number-start c = search needs
-
-part-number-end : tie.Need-part-number-end
-part-number-end c = code-end (c .before .args .w) (c .before .args .b) (c .before .args .bytes .now) (c .before .pre .0) (c .before .pre .1) (c .before .pre .3)
-
-number-requires : tie.Need-number-requires
-number-requires c κs = search needs
+word-at-requires : tie.Need-word-at-requires
+word-at-requires c κs = omega (arith, half-fits (c .before .args .w) (c .before .args .b) (c .before .pre .1) (omega arith))
 
 cast-result : tie.Need-cast-result
 cast-result c = search needs
@@ -64,10 +43,10 @@ shl-result : tie.Need-shl-result
 shl-result c = search needs
 
 sub-result : tie.Need-sub-result
-sub-result c = shifted-one (4 * (c .before .before .before .args .w - 1)) 64 (omega arith)
+sub-result c = shifted-one (4 * (c .before .before .args .w - 1)) 64 (omega arith)
 
 returns : tie.Need-returns
-returns c = code-read (c .before .before .before .args .w) (c .before .before .before .args .b) (c .before .before .before .args .bytes .now) (c .before .before .before .pre .0) (c .before .before .before .pre .1) (c .before .before .before .pre .3) (all-bytes (c .before .before .before .args .bytes .now) (λ i. c .before .before .shared-slice-known .given i .fits)) (c .number .result) (c .number .ensures)
+returns c = code-read (c .before .before .args .w) (c .before .before .args .b) (c .before .before .args .bytes .now) (c .before .before .pre .0) (c .before .before .pre .1) (all-bytes (c .before .before .args .bytes .now) (λ i. c .before .shared-slice-known .given i .fits)) (c .word-at .result) (c .word-at .ensures)
 
 pub code-at-spec : {M : Type 1} → statement M
 code-at-spec =
@@ -80,14 +59,7 @@ code-at-spec =
     mul-skip
     sub-size
     mul-size
-    add-end
-    add-end-2
-    cast-end
-    add-end-3
-    sub-number
-    part-number-start
-    part-number-end
-    number-requires
+    word-at-requires
     cast-result
     shr-result
     cast-result-2

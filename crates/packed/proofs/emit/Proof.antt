@@ -48,7 +48,7 @@ same-length : tie.Need-same-length Inv-loop μ-loop
 same-length c = ap length (c .before .loop .inv .2) ∙ emitted-length (c .before .before .args .part .now) (c .before .before .args .word) (c .before .loop .i) (omega arith)
 
 returns : tie.Need-returns Inv-loop μ-loop
-returns c = let e : c .before .loop .i ≡ c .before .before .args .count = omega arith in rw (sym e) (c .before .loop .inv .1, c .before .loop .inv .2)
+returns c = let e : c .before .loop .i ≡ c .before .before .args .count = omega arith in rw (sym e) (c .before .loop .inv .2)
 
 pub emit-spec : {M : Type 1} → statement M
 emit-spec =

@@ -1,41 +1,40 @@
-use Prim.Native.Nat.{_≤_, _^_, _-_}
-use Prim.Native.Nat.{ℕ, _<_}
-use lib.ListN.{getD, drop-of-length-le}
-use lib.ListN.{length, drop}
-use mathlib.Core.Path.{_≡_, refl, sym, ap, subst, _∙_}
+use Prim.Native.Nat.{ℕ, _≤_, _<_, _*_, _-_, _/_, _^_}
+use mathlib.Core.Bool.{_||_}
+use mathlib.Core.List.{List}
+use mathlib.Core.Path.{_≡_, refl, sym, ap, _∙_}
 use native.Mathlib.Omega.{arith}
-use Rattle.packed.proofs.Computes.{one-shifted, any-here, any-next}
+use lib.ListN.{length, getD, drop, drop-of-length-le}
+use Rattle.packed.proofs.Computes.{found, over-none, over-few, over-next}
+use Rattle.table.specs.Writing.{anyFrom}
 use Rattle.packed.proofs.too_wide.Statement.{statement}
 use Rattle.packed.proofs.too_wide.Tie as tie
-use Rattle.table.specs.Writing.{anyFrom}
 
 abbrev Inv-loop : tie.InvT-loop
-Inv-loop w table limit i₀ i = (i ≤ length table) × (anyFrom (2 ^ w) (drop i table) ≡ anyFrom (2 ^ w) table)
+Inv-loop w table over₀ i₀ over i = (i ≤ length table) × (over ≤ 4095 * i) × ((found over || anyFrom (2 ^ w) (drop i table)) ≡ anyFrom (2 ^ w) table)
 
 abbrev μ-loop : tie.MeasureT-loop
-μ-loop w table limit i₀ i = length table - i
-
-shl-limit : tie.Need-shl-limit Inv-loop μ-loop
-shl-limit c = omega arith
+μ-loop w table over₀ i₀ over i = length table - i
 
 loop-holds : tie.Need-loop-holds Inv-loop μ-loop
-loop-holds c = (omega arith, refl)
+loop-holds c = (omega arith, omega arith, refl)
 
-mul-if1 : tie.Need-mul-if1 Inv-loop μ-loop
-mul-if1 c = omega arith
+mul-over : tie.Need-mul-over Inv-loop μ-loop
+mul-over c = omega arith
 
-shared-slice-read-if1 : tie.Need-shared-slice-read-if1 Inv-loop μ-loop
-shared-slice-read-if1 c = omega arith
+shared-slice-read-over : tie.Need-shared-slice-read-over Inv-loop μ-loop
+shared-slice-read-over c = omega arith
 
-cast-if1 : tie.Need-cast-if1 Inv-loop μ-loop
-cast-if1 c = omega (arith, c .shared-slice-known .given (c .before .before .loop .i))
+cast-over : tie.Need-cast-over Inv-loop μ-loop
+cast-over c = omega (arith, c .shared-slice-known .given (c .before .before .loop .i))
 
-returns : tie.Need-returns Inv-loop μ-loop
-returns c =
-    let d = c .before .before .before in
-    let a = d .before .args in
-    let h : 2 ^ a .w ≤ getD (a .table .now) (d .loop .i) 0 = subst (λ (x : ℕ). x ≤ getD (a .table .now) (d .loop .i) 0) (one-shifted (a .w) 32 (omega (arith, d .before .pre))) (c .if1 .taken) in
-    sym (any-here (2 ^ a .w) (a .table .now) (d .loop .i) (c .before .before .loop-test .taken) h) ∙ d .loop .inv .1
+shr-over : tie.Need-shr-over Inv-loop μ-loop
+shr-over c = omega arith
+
+few : (c : tie.After-shared-slice-known Inv-loop μ-loop) → getD (c .before .before .before .args .table .now) (c .before .before .loop .i) 0 / 2 ^ c .before .before .before .args .w < 4096
+few c = over-few (c .before .before .before .args .w) (getD (c .before .before .before .args .table .now) (c .before .before .loop .i) 0) (c .before .before .before .pre .0) (c .shared-slice-known .given (c .before .before .loop .i) .fits)
+
+add-over : tie.Need-add-over Inv-loop μ-loop
+add-over c = omega (arith, few c)
 
 add-i : tie.Need-add-i Inv-loop μ-loop
 add-i c = omega arith
@@ -44,16 +43,10 @@ loop-less : tie.Need-loop-less Inv-loop μ-loop
 loop-less c = omega arith
 
 loop-again : tie.Need-loop-again Inv-loop μ-loop
-loop-again c =
-    let d = c .before .before .before in
-    let a = d .before .args in
-    let h : getD (a .table .now) (d .loop .i) 0 < 2 ^ a .w = subst (λ (x : ℕ). getD (a .table .now) (d .loop .i) 0 < x) (one-shifted (a .w) 32 (omega (arith, d .before .pre))) (c .if1 .left) in
-    (omega arith, any-next (2 ^ a .w) (a .table .now) (d .loop .i) (c .before .before .loop-test .taken) h ∙ d .loop .inv .1)
+loop-again c = (omega arith, omega (arith, few c), over-next (c .before .before .before .args .w) (c .before .before .before .args .table .now) (c .before .before .loop .i) (c .before .before .loop .over) (c .before .loop-test .taken) ∙ c .before .before .loop .inv .2)
 
-returns-2 : tie.Need-returns-2 Inv-loop μ-loop
-returns-2 c =
-    let a = c .before .before .args in
-    sym (ap (anyFrom (2 ^ a .w)) (drop-of-length-le (a .table .now) (c .loop-test .left))) ∙ c .before .loop .inv .1
+returns : tie.Need-returns Inv-loop μ-loop
+returns c = over-none (found (c .before .loop .over)) ∙ ap (λ (l : List ℕ). found (c .before .loop .over) || anyFrom (2 ^ c .before .before .args .w) l) (sym (drop-of-length-le (c .before .before .args .table .now) (c .loop-test .left))) ∙ c .before .loop .inv .2
 
 pub too-wide-spec : {M : Type 1} → statement M
 too-wide-spec =
@@ -61,13 +54,13 @@ too-wide-spec =
     (tie.spec
     Inv-loop
     μ-loop
-    shl-limit
     loop-holds
-    mul-if1
-    shared-slice-read-if1
-    cast-if1
-    returns
+    mul-over
+    shared-slice-read-over
+    cast-over
+    shr-over
+    add-over
     add-i
     loop-less
     loop-again
-    returns-2)
+    returns)

@@ -40,7 +40,7 @@ returns-2 : tie.Need-returns-2
 returns-2 c = write-refused (c .before .before .before .before .before .before .args .s) (c .before .before .before .before .before .before .args .table .now) (c .before .before .before .before .before .before .args .out .now) 5 (write-table (c .before .before .before .before .before .before .args .s) (c .before .before .before .before .before .before .args .table .now) (length (c .before .before .before .before .before .before .args .out .now)) (good (c .before .before)) (c .if2 .taken))
 
 too-wide-requires : tie.Need-too-wide-requires
-too-wide-requires c κs = laws (c .before .before .before .before .before .before .args .s) (good (c .before .before)) .width-high
+too-wide-requires c κs = let l = laws (c .before .before .before .before .before .before .args .s) (good (c .before .before)) in (l .width-low, l .width-high, omega (arith, l .few-buckets, c .if2 .left))
 
 returns-3 : tie.Need-returns-3
 returns-3 c = write-refused (c .before .before .before .before .before .before .before .before .args .s) (c .before .before .before .before .before .before .before .before .args .table .now) (c .before .before .before .before .before .before .before .before .args .out .now) 17 (write-wide (c .before .before .before .before .before .before .before .before .args .s) (c .before .before .before .before .before .before .before .before .args .table .now) (length (c .before .before .before .before .before .before .before .before .args .out .now)) (good (c .before .before .before .before)) (c .before .before .if2 .left) (sym (c .before .too-wide .ensures) ∙ c .if3 .taken))
