@@ -420,61 +420,34 @@ module _ (s : Settings) (t : List ℕ) where
             ∙ sym (ap (λ (b : Bool). readOut t (refuseIf b 15 (next (toldRead (given s) (cellsOf (readBuckets (s .width) (s .buckets) rest))) (drop end l)))) (none-left l end h))
             ∙ ap (readOut t) ended
 
--- ── the header, one field after the other, and what stands behind it ──
-assoc : {A B C : Type 0} (p : Parsed A) (f : A → List ℕ → Parsed B) (g : B → List ℕ → Parsed C) → andThen (andThen p f) g ≡ andThen p (λ a rest. andThen (f a rest) g)
-assoc (stop n) f g = refl
-assoc (next a rest) f g = refl
+-- ── the header, one field after the other ──
+module _ (m : ℕ) where
+  abbrev pub afterMask : ℕ → ℕ → ℕ → ℕ → List ℕ → Parsed Settings
+  afterMask rule width less mask rest = refuseIf (misfit m (settingsOf rule width less mask)) 12 (next (settingsOf rule width less mask) rest)
 
-same-then : {A B : Type 0} (p : Parsed A) (f g : A → List ℕ → Parsed B) → ((a : A) (rest : List ℕ) → f a rest ≡ g a rest) → andThen p f ≡ andThen p g
-same-then (stop n) f g h = refl
-same-then (next a rest) f g h = h a rest
-
-refuse-then : {A B : Type 0} (t : Bool) (n : ℕ) (p : Parsed A) (f : A → List ℕ → Parsed B) → andThen (refuseIf t n p) f ≡ refuseIf t n (andThen p f)
-refuse-then true n p f = refl
-refuse-then false n p f = refl
-
-module _ (t : List ℕ) (m : ℕ) where
-  abbrev pub afterMask : ℕ → ℕ → ℕ → ℕ → List ℕ → Parsed ReadOut
-  afterMask rule width less mask rest = refuseIf (misfit m (settingsOf rule width less mask)) 12 (afterHeader t (settingsOf rule width less mask) rest)
-
-  abbrev pub afterLess : ℕ → ℕ → ℕ → List ℕ → Parsed ReadOut
+  abbrev pub afterLess : ℕ → ℕ → ℕ → List ℕ → Parsed Settings
   afterLess rule width less rest = andThen (field (bit3 m) 0 takePair rest) (afterMask rule width less)
 
-  abbrev pub afterWidth : ℕ → ℕ → List ℕ → Parsed ReadOut
+  abbrev pub afterWidth : ℕ → ℕ → List ℕ → Parsed Settings
   afterWidth rule width rest = andThen (field (bit2 m) 4095 takePair rest) (afterLess rule width)
 
-  abbrev pub afterRule : ℕ → List ℕ → Parsed ReadOut
+  abbrev pub afterRule : ℕ → List ℕ → Parsed Settings
   afterRule rule rest = andThen (field (bit1 m) 12 takeByte rest) (afterWidth rule)
 
-  abbrev pub allFields : List ℕ → Parsed ReadOut
+  abbrev pub allFields : List ℕ → Parsed Settings
   allFields rest = andThen (field (bit0 m) 0 takeByte rest) afterRule
 
-  fields-then : (rest : List ℕ) → andThen (readFields m rest) (afterHeader t) ≡ allFields rest
-  unfolding readFields
-  fields-then rest =
-      assoc (field (bit0 m) 0 takeByte rest) _ (afterHeader t) ∙ same-then (field (bit0 m) 0 takeByte rest) _ afterRule (λ rule r1.
-      assoc (field (bit1 m) 12 takeByte r1) _ (afterHeader t) ∙ same-then (field (bit1 m) 12 takeByte r1) _ (afterWidth rule) (λ width r2.
-      assoc (field (bit2 m) 4095 takePair r2) _ (afterHeader t) ∙ same-then (field (bit2 m) 4095 takePair r2) _ (afterLess rule width) (λ less r3.
-      assoc (field (bit3 m) 0 takePair r3) _ (afterHeader t) ∙ same-then (field (bit3 m) 0 takePair r3) _ (afterMask rule width less) (λ mask r4.
-      refuse-then (misfit m (settingsOf rule width less mask)) 12 (next (settingsOf rule width less mask) r4) (afterHeader t)))))
-
-  abbrev pub afterMap : List ℕ → Parsed ReadOut
+  abbrev pub afterMap : List ℕ → Parsed Settings
   afterMap rest = refuseIf (leb 16 m) 12 (allFields rest)
 
-pub file-opened : (l t : List ℕ) → readAll l t ≡ andThen (takeByte l) (afterMap t)
-unfolding readAll readHeader afterHeader afterBuckets
-file-opened l t =
-    assoc (takeByte l) (λ map rest. refuseIf (leb 16 map) 12 (readFields map rest)) (afterHeader t)
-    ∙ same-then (takeByte l) (λ map rest. andThen (refuseIf (leb 16 map) 12 (readFields map rest)) (afterHeader t)) (afterMap t)
-    (λ map rest. refuse-then (leb 16 map) 12 (readFields map rest) (afterHeader t) ∙ ap (refuseIf (leb 16 map) 12) (fields-then t map rest))
+pub header-opened : (l : List ℕ) → readHeader l ≡ andThen (takeByte l) afterMap
+unfolding readHeader readFields
+header-opened l = refl
 
 pub settings-same : {a b c d e f g h : ℕ} → a ≡ e → b ≡ f → c ≡ g → d ≡ h → settingsOf a b c d ≡ settingsOf e f g h
 settings-same p q r s = rw (p, q, r, s) refl
 
-pub file-refused : (l t : List ℕ) (n : ℕ) → stop n ≡ readAll l t → toldRead (refused n) t ≡ readFile l t
-unfolding readFile
-file-refused l t n e = ap (readOut t) e
-
-pub file-body : (l t rest : List ℕ) {a b : Settings} {r : ReadOut} → readAll l t ≡ afterHeader t b rest → a ≡ b → r ≡ readOut t (afterHeader t a rest) → r ≡ readFile l t
-unfolding readFile
-file-body l t rest e s q = q ∙ ap (λ (x : Settings). readOut t (afterHeader t x rest)) s ∙ sym (ap (readOut t) e)
+-- ── the whole: the header, and what stands behind it ──
+pub file-read : (l t : List ℕ) (h : Parsed Settings) {r : ReadOut} → h ≡ readHeader l → r ≡ readOut t (andThen h (afterHeader t)) → r ≡ readFile l t
+unfolding readFile readAll afterHeader afterBuckets
+file-read l t h e q = q ∙ ap (λ (p : Parsed Settings). readOut t (andThen p (afterHeader t))) e

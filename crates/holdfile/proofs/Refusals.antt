@@ -10,21 +10,13 @@ use native.Mathlib.Decide.{ℕ-discrete}
 use native.Mathlib.Omega.{arith}
 use borrow.Author.Tests.{eq-eqb, ne-eqb, lt-ltb, le-ltb}
 use lib.ListN.{length}
-use Rattle.index.specs.Checks.{Check, firstMet, numberOf}
+use Rattle.index.specs.Checks.{firstMet, numberOf}
 use Rattle.index.specs.Settings.{settingsChecks, settingsRefusal}
 use Rattle.index.specs.declared.Settings.{Settings}
 use Rattle.index.proofs.Refusals.{first-none, first-some, settings-none, number-some}
 use Rattle.table.specs.Calls.{tableChecks, clearRefusal}
 use Rattle.table.specs.Writing.{anyFrom, wideChecks, roomChecks, writeRefusal}
 use Rattle.holdfile.specs.Writer.{fileOf}
-
--- nothing is met in a list of checks, so nothing in its first part
-pub none-before : (l m : List Check) → firstMet (l ++ m) ≡ none → firstMet l ≡ none
-none-before l m e = go (firstMet l) refl
-  where
-    go : (o : Option ℕ) → firstMet l ≡ o → firstMet l ≡ none
-    go none f = f
-    go (some n) f = absurd (let z : _≡_ {A = ℕ} 0 1 = cc (first-some l m n f) in omega arith)
 
 -- ── settings and table ──
 module _ (s : Settings) (c : List ℕ) where

@@ -1,25 +1,25 @@
--- Round trip, both ways.
+-- Round trip, both ways, and what the header alone tells.
 -- Assumes nothing.
-use mathlib.Core.Path.{_≡_, refl, sym, ap, _∙_, subst}
+use mathlib.Core.Path.{_≡_, sym, ap, _∙_, subst}
 use mathlib.Core.Bool.{false}
 use mathlib.Core.Option.{Option, none}
 use mathlib.Core.List.{List, [], _∷_, _++_, append-nil}
 use Prim.Native.Nat.{ℕ, _*_, _^_, _≤_}
 use native.Mathlib.Omega.{arith}
 use lib.ListN.{length, drop}
-use Rattle.index.specs.Checks.{firstMet, given}
+use Rattle.index.specs.Checks.{firstMet, numberOf, Answer, given}
 use Rattle.index.specs.Settings.{settingsChecks, settingsRefusal}
 use Rattle.index.specs.declared.Settings.{Settings}
-use Rattle.table.specs.Calls.{tableChecks}
+use Rattle.table.specs.Calls.{tableChecks, clearRefusal}
 use Rattle.lemmas.specs.Bytes.{AllBytes}
 use Rattle.table.specs.Writing.{anyFrom, written}
 use Rattle.holdfile.specs.Writer.{header, body, fileOf, writeFile}
-use Rattle.holdfile.specs.Reader.{Parsed, stop, next, andThen, checked, readHeader, readBuckets, ReadOut, leftOver, readAll, readOut, readFile}
-use Rattle.holdfile.specs.Parts.{afterBuckets, afterHeader}
-use Rattle.holdfile.specs.RoundTrip.{WrittenIsRead, ReadIsWritten}
-use Rattle.holdfile.proofs.Refusals.{none-before, both-pass, write-passes}
+use Rattle.holdfile.specs.Reader.{Parsed, stop, next, andThen, checked, readHeader, readBuckets, ReadOut, leftOver, readAll, readOut, readFile, headerAnswer}
+use Rattle.holdfile.specs.Parts.{toldRead, afterBuckets, afterHeader}
+use Rattle.holdfile.specs.RoundTrip.{WrittenIsRead, ReadIsWritten, HeaderTells}
+use Rattle.holdfile.proofs.Refusals.{both-pass, clear-settings, clear-long, write-passes}
 use Rattle.holdfile.proofs.Parses.{onward, split, same-next, not-refused, not-checked}
-use Rattle.holdfile.proofs.Header.{header-read, header-back}
+use Rattle.holdfile.proofs.Headers.{header-read, header-back}
 use Rattle.holdfile.proofs.Buckets.{buckets-read, buckets-back}
 
 -- ── written, then read ──
@@ -35,6 +35,42 @@ back s c t e lc lt small =
 pub written-is-read : WrittenIsRead
 written-is-read = record { back = back }
 
+-- ── the parts of a file that was accepted ──
+-- a reading that gave settings refused nothing
+given-next : (t c : List ℕ) (s : Settings) (p : Parsed ReadOut) → readOut t p ≡ record { answer = given s; cells = c }
+    → (end : List ℕ) × (p ≡ next (record { answer = given s; cells = c }) end)
+given-next t c s (stop n) e = absurd (let z : _≡_ {A = ℕ} 0 1 = cc (ap (λ (r : ReadOut). r .answer) e) in omega arith)
+given-next t c s (next r end) e = (end, ap (λ (x : ReadOut). next x end) e)
+
+-- and left nothing over
+to-end : {A : Type 0} {p : Parsed A} {a : A} (rest : List ℕ) → leftOver rest ≡ false → p ≡ next a rest → p ≡ next a []
+to-end [] e f = f
+to-end (b ∷ l) e f = absurd (let z : _≡_ {A = ℕ} 0 1 = cc e in omega arith)
+
+same-given : {A : Type 0} {a b : A} → given a ≡ given b → a ≡ b
+same-given e = cc
+
+-- its header, settings and a table that pass, and its buckets
+record Parts (bytes t c : List ℕ) (s : Settings) : Type 0 where
+  pub rest : List ℕ
+  pub first : readHeader bytes ≡ next s rest
+  pub clear : numberOf (clearRefusal s t) ≡ 0
+  pub buckets : readBuckets (s .width) (s .buckets) rest ≡ next c []
+
+parts : (bytes t c : List ℕ) (s : Settings) → readFile bytes t ≡ record { answer = given s; cells = c } → Parts bytes t c s
+unfolding readFile readAll afterHeader afterBuckets clearRefusal
+parts bytes t c s e =
+    let out : ReadOut = record { answer = given s; cells = c } in
+    let g = given-next t c s (readAll bytes t) e in
+    let h = split (readHeader bytes) (afterHeader t) out (g .0) (g .1) in
+    let o = not-checked (firstMet (settingsChecks (h .value) ++ tableChecks (h .value) t)) (andThen (readBuckets (h .value .width) (h .value .buckets) (h .rest)) (afterBuckets (h .value))) out (g .0) (h .then) in
+    let b = split (readBuckets (h .value .width) (h .value .buckets) (h .rest)) (afterBuckets (h .value)) out (g .0) (o .1) in
+    let n = not-refused (leftOver (b .rest)) 15 (next (record { answer = given (h .value); cells = b .value }) (b .rest)) out (g .0) (b .then) in
+    let q = same-next (n .1) in
+    let p : Parts bytes t (b .value) (h .value) = record { rest = h .rest; first = h .first; clear = ap numberOf (o .0); buckets = to-end (b .rest) (n .0) (b .first) } in
+    subst (λ (x : List ℕ). Parts bytes t x s) (ap (λ (r : ReadOut). r .cells) (q .0))
+    (subst (λ (x : Settings). Parts bytes t (b .value) x) (same-given (ap (λ (r : ReadOut). r .answer) (q .0))) p)
+
 -- ── read, then written ──
 -- what an accepted file consists of
 record Accepted (bytes c : List ℕ) (s : Settings) : Type 0 where
@@ -43,36 +79,13 @@ record Accepted (bytes c : List ℕ) (s : Settings) : Type 0 where
   pub small : anyFrom (2 ^ s .width) c ≡ false
   pub same : fileOf s c ≡ bytes
 
--- a reading that gave settings refused nothing
-given-next : (t c : List ℕ) (s : Settings) (p : Parsed ReadOut) → readOut t p ≡ record { answer = given s; cells = c }
-    → (end : List ℕ) × (p ≡ next (record { answer = given s; cells = c }) end)
-given-next t c s (stop n) e = absurd (let z : _≡_ {A = ℕ} 0 1 = cc (ap (λ (r : ReadOut). r .answer) e) in omega arith)
-given-next t c s (next r end) e = (end, ap (λ (x : ReadOut). next x end) e)
-
-none-left : (l : List ℕ) → leftOver l ≡ false → l ≡ []
-none-left [] e = refl
-none-left (b ∷ l) e = absurd (let z : _≡_ {A = ℕ} 0 1 = cc in omega arith)
-
-same-given : {A : Type 0} {a b : A} → given a ≡ given b → a ≡ b
-same-given e = cc
-
 accepted : (bytes t c : List ℕ) (s : Settings) → AllBytes bytes → readFile bytes t ≡ record { answer = given s; cells = c } → Accepted bytes c s
-unfolding readFile readAll fileOf afterHeader afterBuckets settingsRefusal
+unfolding fileOf
 accepted bytes t c s all e =
-    let out : ReadOut = record { answer = given s; cells = c } in
-    let g = given-next t c s (readAll bytes t) e in
-    let h = split (readHeader bytes) (afterHeader t) out (g .0) (g .1) in
-    let k = header-back bytes (h .value) (h .rest) all (h .first) in
-    let o = not-checked (firstMet (settingsChecks (h .value) ++ tableChecks (h .value) t)) (andThen (readBuckets (h .value .width) (h .value .buckets) (h .rest)) (afterBuckets (h .value))) out (g .0) (h .then) in
-    let b = split (readBuckets (h .value .width) (h .value .buckets) (h .rest)) (afterBuckets (h .value)) out (g .0) (o .1) in
-    let m = buckets-back (h .value .width) (h .value .buckets) (h .rest) (b .value) (b .rest) (k .left) (b .first) in
-    let n = not-refused (leftOver (b .rest)) 15 (next (record { answer = given (h .value); cells = b .value }) (b .rest)) out (g .0) (b .then) in
-    let q = same-next (n .1) in
-    let same : header (h .value) ++ body (b .value) ≡ bytes =
-    ap (λ (x : List ℕ). header (h .value) ++ x) (sym (append-nil (body (b .value))) ∙ ap (λ (x : List ℕ). body (b .value) ++ x) (sym (none-left (b .rest) (n .0))) ∙ m .same) ∙ k .same in
-    let a : Accepted bytes (b .value) (h .value) = record { settings = none-before (settingsChecks (h .value)) (tableChecks (h .value) t) (o .0); long = m .long; small = m .small; same = same } in
-    subst (λ (x : List ℕ). Accepted bytes x s) (ap (λ (r : ReadOut). r .cells) (q .0))
-    (subst (λ (x : Settings). Accepted bytes (b .value) x) (same-given (ap (λ (r : ReadOut). r .answer) (q .0))) a)
+    let p = parts bytes t c s e in
+    let k = header-back bytes s (p .rest) all (p .first) in
+    let m = buckets-back (s .width) (s .buckets) (p .rest) c [] (k .left) (p .buckets) in
+    record { settings = clear-settings s t (p .clear); long = m .long; small = m .small; same = ap (λ (x : List ℕ). header s ++ x) (sym (append-nil (body c)) ∙ m .same) ∙ k .same }
 
 -- the writer refuses nothing of what was accepted
 makes : (bytes t c out : List ℕ) (s : Settings) → AllBytes bytes → readFile bytes t ≡ record { answer = given s; cells = c } → length bytes ≤ length out
@@ -85,3 +98,12 @@ makes bytes t c out s all e h =
 
 pub read-is-written : ReadIsWritten
 read-is-written = record { only = λ bytes t c s all e. accepted bytes t c s all e .same; makes = makes }
+
+-- ── what the header alone tells ──
+tells : (bytes c : List ℕ) (s : Settings) → readFile bytes c .answer ≡ given s → (headerAnswer (readHeader bytes) ≡ given s) × (length c ≡ 4 * s .buckets)
+tells bytes c s e =
+    let p = parts bytes c (readFile bytes c .cells) s (ap (λ (a : Answer Settings). toldRead a (readFile bytes c .cells)) e) in
+    (ap headerAnswer (p .first), clear-long s c (p .clear))
+
+pub header-tells : HeaderTells
+header-tells = record { tells = tells }

@@ -16,6 +16,7 @@ use Rattle.holdfile.specs.Writer.{bucketBytes, body}
 use Rattle.holdfile.specs.Reader.{Parsed, stop, next, andThen, refuseIf, checked, readCell, readBucket, readBuckets, ReadOut, leftOver}
 use Rattle.holdfile.specs.declared.Size.{Size}
 use Rattle.holdfile.specs.declared.Field.{Field}
+use Rattle.holdfile.specs.declared.Header.{Header}
 use Rattle.holdfile.specs.declared.Pass.{Pass}
 
 -- an answer with what it leaves
@@ -49,6 +50,10 @@ bodySize w c = cond (anyFrom (2 ^ w) c) (refused 17) (given (length (body c)))
 abbrev pub fieldIs : List ℕ → Field → Parsed ℕ
 fieldIs l (Field.Value v at) = next v (drop at l)
 fieldIs l Field.Short = stop 11
+
+abbrev pub headerIs : List ℕ → Header → Parsed Settings
+headerIs l (Header.Fields s at) = next s (drop at l)
+headerIs l (Header.Refused n) = stop n
 
 abbrev pub passIs : List ℕ → Pass → Parsed (Unit {0})
 passIs l (Pass.End at) = next tt (drop at l)

@@ -116,3 +116,9 @@ readOut c (next r end) = r
 
 unfoldable pub readFile : List ℕ → List ℕ → ReadOut
 readFile bytes c = readOut c (readAll bytes c)
+
+-- ── the header alone ──
+-- the settings that it names, whatever stands behind it
+abbrev pub headerAnswer : Parsed Settings → Answer Settings
+headerAnswer (stop n) = refused n
+headerAnswer (next s rest) = given s

@@ -12,9 +12,9 @@ ghost use Rattle.index.specs.Settings.{settingsRefusal};
 ghost use Rattle.table.specs.Calls.{clearRefusal};
 ghost use Rattle.holdfile.specs.Bytes.{pair, nibble as nibbleOf, one as oneOf, where?};
 ghost use Rattle.holdfile.specs.Writer.{header, body, writeFile};
-ghost use Rattle.holdfile.specs.Reader.{takeByte, takePair, field, misfit as misfitOf, readBucket, readBuckets, readOut, readFile};
+ghost use Rattle.holdfile.specs.Reader.{takeByte, takePair, field, misfit as misfitOf, readHeader, readBucket, readBuckets, readOut, readFile, headerAnswer};
 ghost use Rattle.holdfile.specs.Answers.{writeIs, readIs};
-ghost use Rattle.holdfile.specs.Parts.{fieldIs, PrintAt, FullAt, largerOf, passIs, endOf, Passed, cellsOf, CellStored, Stored, afterHeader, Put, sizeIs, bodySize, bucketFrom};
+ghost use Rattle.holdfile.specs.Parts.{fieldIs, headerIs, PrintAt, FullAt, largerOf, passIs, endOf, Passed, cellsOf, CellStored, Stored, afterHeader, Put, sizeIs, bodySize, bucketFrom};
 use index::Settings;
 
 // The byte count, or the number of the refusal.
@@ -39,6 +39,12 @@ enum Size {
 enum Field {
     Value(u16, usize),
     Short,
+}
+
+// The settings that a header names and the place after it, or the number of the refusal.
+enum Header {
+    Fields(Settings, usize),
+    Refused(u32),
 }
 
 // The place after one bucket or more.
@@ -511,27 +517,27 @@ fn misfit(map: u16, s: Settings) -> bool
     rule == 2
 }
 
-// A file's settings, with its cells in the table. The table is written once the whole file has passed.
-pub fn read(bytes: &[u8], table: &mut [u16]) -> ReadAnswer
-    ensures { λ r. ⌜ record { answer = readIs r; cells = now (table .exit) } ≡ readFile (now (bytes .entry)) (now (table .entry)) ⌝ }
+// The header: its fields in their order, and that they fit one another.
+fn header_at(bytes: &[u8]) -> Header
+    ensures { λ r. ⌜ headerIs (now (bytes .entry)) r ≡ readHeader (now (bytes .entry)) ⌝ }
 {
     let Field::Value(map, at) = byte_at(bytes, 0) else {
-        return ReadAnswer::Refused(11);
+        return Header::Refused(11);
     };
     if map >= 16 {
-        return ReadAnswer::Refused(12);
+        return Header::Refused(12);
     }
     let Field::Value(rule, at) = byte_field(bytes, at, map % 2 == 1, RULE) else {
-        return ReadAnswer::Refused(11);
+        return Header::Refused(11);
     };
     let Field::Value(width, at) = byte_field(bytes, at, map / 2 % 2 == 1, WIDTH) else {
-        return ReadAnswer::Refused(11);
+        return Header::Refused(11);
     };
     let Field::Value(less, at) = pair_field(bytes, at, map / 4 % 2 == 1, LESS) else {
-        return ReadAnswer::Refused(11);
+        return Header::Refused(11);
     };
     let Field::Value(mask, at) = pair_field(bytes, at, map / 8 % 2 == 1, MASK) else {
-        return ReadAnswer::Refused(11);
+        return Header::Refused(11);
     };
     let buckets = wide(less) + 1;
     let s = Settings {
@@ -541,7 +547,28 @@ pub fn read(bytes: &[u8], table: &mut [u16]) -> ReadAnswer
         mask: wide(mask),
     };
     if misfit(map, s) {
-        return ReadAnswer::Refused(12);
+        return Header::Refused(12);
     }
-    read_body(s, bytes, at, table)
+    Header::Fields(s, at)
+}
+
+// The settings that a file's header names, so that a caller can lend as many cells as the reader asks for. It looks at nothing behind
+// the header, and does not check the settings.
+pub fn settings_of(bytes: &[u8]) -> ReadAnswer
+    ensures { λ r. ⌜ readIs r ≡ headerAnswer (readHeader (now (bytes .entry))) ⌝ }
+{
+    match header_at(bytes) {
+        Header::Refused(n) => ReadAnswer::Refused(n),
+        Header::Fields(s, _) => ReadAnswer::Read(s),
+    }
+}
+
+// A file's settings, with its cells in the table. The table is written once the whole file has passed.
+pub fn read(bytes: &[u8], table: &mut [u16]) -> ReadAnswer
+    ensures { λ r. ⌜ record { answer = readIs r; cells = now (table .exit) } ≡ readFile (now (bytes .entry)) (now (table .entry)) ⌝ }
+{
+    match header_at(bytes) {
+        Header::Refused(n) => ReadAnswer::Refused(n),
+        Header::Fields(s, at) => read_body(s, bytes, at, table),
+    }
 }

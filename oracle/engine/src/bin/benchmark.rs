@@ -215,9 +215,11 @@ fn table_rows(name: &str, s: Settings) {
     time(&format!("{name}, release"), released);
 }
 
-fn format_rows(s: Settings) {
+/// The two forms of a table filled to a share of its cells.
+fn format_rows(s: Settings, share: f64) {
+    let at = format!("at {:.0} %", 100.0 * share);
     let list = tags(1, 4 * s.buckets as usize);
-    let (cells, _, _) = filled(s, 0.95, &list);
+    let (cells, _, _) = filled(s, share, &list);
     let mut out = vec![0; 1 << 20];
     let size = Side::Other.file_write(s, &cells, &mut out) as usize;
     let file = out[..size].to_vec();
@@ -226,14 +228,14 @@ fn format_rows(s: Settings) {
             black_box(side.file_write(s, &cells, &mut out));
         })
     });
-    speed("hold file, write", size, written);
+    speed(&format!("hold file, write, {at}"), size, written);
     let mut table = cells.clone();
     let read = measure(|side| {
         timed(|| {
             black_box(side.file_read(&file, &mut table));
         })
     });
-    speed("hold file, read", size, read);
+    speed(&format!("hold file, read, {at}"), size, read);
     let size = Side::Other.packed_write(s, &cells, &mut out) as usize;
     let form = out[..size].to_vec();
     let written = measure(|side| {
@@ -241,13 +243,13 @@ fn format_rows(s: Settings) {
             black_box(side.packed_write(s, &cells, &mut out));
         })
     });
-    speed("packed form, write", size, written);
+    speed(&format!("packed form, write, {at}"), size, written);
     let read = measure(|side| {
         timed(|| {
             black_box(side.packed_read(s, &form, &mut table));
         })
     });
-    speed("packed form, read", size, read);
+    speed(&format!("packed form, read, {at}"), size, read);
 }
 
 fn main() {
@@ -269,5 +271,7 @@ fn main() {
             holds(s, 0.85, 0.9, &list),
         );
     }
-    format_rows(Settings::new(PLAIN, WIDTH, 65_536, 0));
+    for share in [0.95, 0.5] {
+        format_rows(Settings::new(PLAIN, WIDTH, 65_536, 0), share);
+    }
 }

@@ -1,0 +1,28 @@
+use borrow.Author.Needs.{needs}
+use lib.ListN.{length}
+use mathlib.Core.Path.{refl}
+use Rattle.commands.proofs.Digits.{none-refused, long-refused, is-given}
+use Rattle.commands.proofs.tags.text_tag.Statement.{statement}
+use Rattle.commands.proofs.tags.text_tag.Tie as tie
+
+returns : tie.Need-returns
+returns c =
+    let a = c .before .before .args in
+    none-refused (a .text .now) (a .out .now) (c .if1 .taken)
+
+returns-2 : tie.Need-returns-2
+returns-2 c =
+    let a = c .before .before .before .args in
+    long-refused (a .text .now) (a .out .now) (c .if2 .taken)
+
+copy-requires : tie.Need-copy-requires
+copy-requires c κs = search needs
+
+returns-3 : tie.Need-returns-3
+returns-3 c =
+    let d = c .before .before in
+    let a = d .before .before .before .args in
+    is-given (a .text .now) (a .out .now) (length (a .text .now)) (c .copy .last .1 .0) (d .before .if1 .left) (d .if2 .left) refl (c .copy .ensures)
+
+pub text-tag-spec : {M : Type 1} → statement M
+text-tag-spec = tie.close (tie.spec returns returns-2 copy-requires returns-3)

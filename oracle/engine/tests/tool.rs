@@ -1,0 +1,1875 @@
+//! The command-line tool, held to the other implementation line by line and file by file.
+//!
+//! The tool is `target/bin/gedrunelj`, or what `GEDRUNELJ` names. The seed and the length of the
+//! generated scripts are set as for the other tests.
+
+use engine::make::{cells, damage, long, one_of, settings, spoil, tag, Cells};
+use oracle::index::{fnv1a, Settings, MASKED, PLAIN, RING};
+use oracle::requests::{numbers, to_hex, Mix};
+use oracle::{holdfile, packed, table};
+use std::collections::BTreeMap;
+use std::env;
+use std::fs;
+use std::io::{self, BufRead, BufReader, Write};
+use std::os::unix::ffi::OsStrExt;
+use std::os::unix::fs::{symlink, PermissionsExt};
+use std::path::{Path, PathBuf};
+use std::process::{self, Command, Output, Stdio};
+use std::sync::{mpsc, OnceLock};
+use std::thread;
+use std::time::Duration;
+
+/// The most bytes of a line, without its end.
+const LINE: usize = 65_535;
+
+/// All at once.
+const WHOLE: &[usize] = &[usize::MAX];
+
+const NO_COMMAND: &str = "there is no such command; help names them";
+const MISSING: &str = "something is missing after the command";
+const TOO_MUCH: &str = "there is too much after the command";
+const NO_NUMBER: &str = "what should be a number is none below 4294967296";
+const NO_HEX: &str = "what stands after 0x is not pairs of hexadecimal digits";
+const TOO_LONG: &str = "the line is longer than 65535 bytes";
+
+const NO_FILE: &str = "there is no such file or folder";
+const NO_FOLDER: &str = "a part of the path is no folder";
+const A_FOLDER: &str = "it is a folder";
+const TEN: &str = "unfinished files are in the way, of the same name with .tmp0 to .tmp9";
+
+// ── folders ──
+
+/// The files below a folder by their paths in it. A folder among them has no bytes.
+type Files = BTreeMap<Vec<u8>, Option<Vec<u8>>>;
+
+/// A folder for one test, which ends with it.
+struct Folder(PathBuf);
+
+impl Folder {
+    fn new(name: &str) -> Self {
+        let name = format!("tool {} {name}", process::id());
+        let path = Path::new(env!("CARGO_TARGET_TMPDIR")).join(name);
+        let _ = fs::remove_dir_all(&path);
+        fs::create_dir_all(&path).expect("a folder for the test");
+        Folder(path)
+    }
+
+    fn path(&self, name: &str) -> PathBuf {
+        self.0.join(name)
+    }
+
+    fn put(&self, name: &str, bytes: &[u8]) {
+        fs::write(self.path(name), bytes).expect("a file for the test");
+    }
+
+    fn get(&self, name: &str) -> Vec<u8> {
+        fs::read(self.path(name)).unwrap_or_else(|e| panic!("{name}: {e}"))
+    }
+
+    fn add_folder(&self, name: &str) {
+        fs::create_dir(self.path(name)).expect("a folder for the test");
+    }
+
+    fn files(&self) -> Files {
+        let mut all = Files::new();
+        gather(&self.0, b"", &mut all);
+        all
+    }
+
+    fn names(&self) -> Vec<String> {
+        let name = |name: Vec<u8>| String::from_utf8(name).expect("a name of this test");
+        self.files().into_keys().map(name).collect()
+    }
+}
+
+impl Drop for Folder {
+    fn drop(&mut self) {
+        let _ = fs::remove_dir_all(&self.0);
+    }
+}
+
+fn gather(folder: &Path, before: &[u8], all: &mut Files) {
+    for entry in fs::read_dir(folder).expect("a folder") {
+        let entry = entry.expect("an entry of a folder");
+        let name = [before, entry.file_name().as_bytes()].concat();
+        let path = entry.path();
+        if path.is_dir() {
+            gather(&path, &[&name[..], b"/"].concat(), all);
+            all.insert(name, None);
+        } else {
+            let bytes = fs::read(&path).unwrap_or_else(|e| panic!("{}: {e}", path.display()));
+            all.insert(name, Some(bytes));
+        }
+    }
+}
+
+/// Both have the same files with the same bytes.
+fn same_files(got: &Files, expected: &Files, name: &str) {
+    let shown = |files: &Files| -> Vec<String> { files.keys().map(|name| text(name)).collect() };
+    assert_eq!(shown(got), shown(expected), "{name}: the files");
+    for (file, bytes) in expected {
+        assert!(got[file] == *bytes, "{name}: {} differs", text(file));
+    }
+}
+
+// ── the tool ──
+
+fn tool() -> PathBuf {
+    let path = match env::var_os("GEDRUNELJ") {
+        Some(path) => PathBuf::from(path),
+        None => Path::new(env!("CARGO_MANIFEST_DIR")).join("../../target/bin/gedrunelj"),
+    };
+    fs::canonicalize(&path).unwrap_or_else(|e| panic!("{}: {e}", path.display()))
+}
+
+fn command(folder: &Folder) -> Command {
+    let mut command = Command::new(tool());
+    command.current_dir(&folder.0);
+    command
+}
+
+/// Writes the input in pieces of these sizes, again and again.
+fn feed(mut to: impl Write, input: &[u8], pieces: &[usize]) -> io::Result<()> {
+    let mut rest = input;
+    for &size in pieces.iter().cycle() {
+        if rest.is_empty() {
+            break;
+        }
+        let (piece, next) = rest.split_at(size.min(rest.len()));
+        to.write_all(piece)?;
+        to.flush()?;
+        rest = next;
+    }
+    Ok(())
+}
+
+/// What a command answers that gets this on standard input.
+fn talk(command: &mut Command, input: &[u8], pieces: &[usize]) -> Output {
+    let mut child = command
+        .stdin(Stdio::piped())
+        .stdout(Stdio::piped())
+        .stderr(Stdio::piped())
+        .spawn()
+        .expect("the tool starts");
+    let stdin = child.stdin.take().expect("a pipe");
+    thread::scope(|scope| {
+        // A tool that ends early shows in what it has answered.
+        scope.spawn(|| feed(stdin, input, pieces));
+        child.wait_with_output().expect("the tool ends")
+    })
+}
+
+/// How a script gets to the tool.
+#[derive(Clone, Copy, Debug)]
+enum Way {
+    Argument,
+    Input(&'static [usize]),
+}
+
+fn run(folder: &Folder, script: &[u8], way: Way) -> Vec<u8> {
+    let mut command = command(folder);
+    let output = match way {
+        Way::Input(pieces) => talk(&mut command, script, pieces),
+        Way::Argument => {
+            let path = folder.0.with_extension("script");
+            fs::write(&path, script).expect("a script for the test");
+            // With a script, standard input has no part.
+            let output = talk(command.arg(&path), b"clear\nstats\n", WHOLE);
+            fs::remove_file(&path).expect("the script is there");
+            output
+        }
+    };
+    assert!(output.status.success(), "{}", output.status);
+    assert_eq!(text(&output.stderr), "", "standard error");
+    output.stdout
+}
+
+/// Bytes for a message.
+fn text(bytes: &[u8]) -> String {
+    let cut = &bytes[..bytes.len().min(200)];
+    cut.escape_ascii().to_string()
+}
+
+// ── what the tool has to answer ──
+
+/// A character for each byte.
+fn raw(bytes: &[u8]) -> String {
+    bytes.iter().copied().map(char::from).collect()
+}
+
+/// The line that has to come, a character for each byte, or the number of the refusal.
+type Said = Result<String, u32>;
+
+/// The tool's list, kept by the other implementation, and its files.
+struct List {
+    settings: Settings,
+    table: Vec<u16>,
+    scratch: Vec<u32>,
+    longest: u32,
+    line: u64,
+    files: Files,
+}
+
+fn blank(byte: u8) -> bool {
+    matches!(byte, b' ' | b'\t' | b'\r')
+}
+
+fn trimmed(mut text: &[u8]) -> &[u8] {
+    while let [first, rest @ ..] = text {
+        if !blank(*first) {
+            break;
+        }
+        text = rest;
+    }
+    while let [rest @ .., last] = text {
+        if !blank(*last) {
+            break;
+        }
+        text = rest;
+    }
+    text
+}
+
+fn number(word: &[u8]) -> Option<u32> {
+    let digits = word.iter().all(u8::is_ascii_digit);
+    std::str::from_utf8(word)
+        .ok()
+        .filter(|_| digits)?
+        .parse()
+        .ok()
+}
+
+/// The bytes of a tag as it is typed.
+fn typed(text: &[u8]) -> Option<Vec<u8>> {
+    let Some(digits) = text.strip_prefix(b"0x") else {
+        return Some(text.to_vec());
+    };
+    let value = |&digit: &u8| char::from(digit).to_digit(16);
+    let values: Vec<u32> = digits.iter().map(value).collect::<Option<_>>()?;
+    let pairs = values.chunks_exact(2);
+    let pair = |pair: &[u32]| (16 * pair[0] + pair[1]) as u8;
+    pairs
+        .remainder()
+        .is_empty()
+        .then(|| pairs.map(pair).collect())
+}
+
+/// How many buckets the head of a hold file names, if it has one.
+fn buckets_named(bytes: &[u8]) -> usize {
+    let map = bytes.first().copied().unwrap_or(0);
+    let at = 1 + usize::from(map & 1) + usize::from(map >> 1 & 1);
+    match (map & 4, bytes.get(at..at + 2)) {
+        (4, Some(field)) => usize::from(u16::from_le_bytes([field[0], field[1]])) + 1,
+        _ => 4_096,
+    }
+}
+
+fn hold_file(s: Settings, table: &[u16]) -> Vec<u8> {
+    let mut bytes = vec![0; 7 + 9 * s.buckets as usize];
+    let length = holdfile::write(s, table, &mut bytes).expect("good settings and cells");
+    bytes.truncate(length);
+    bytes
+}
+
+fn packed_form(s: Settings, table: &[u16]) -> Vec<u8> {
+    let mut bytes = vec![0; 8 * s.buckets as usize];
+    let length = packed::write(s, table, &mut bytes).expect("good settings and cells");
+    bytes.truncate(length);
+    bytes
+}
+
+impl List {
+    fn new(files: Files) -> Self {
+        let mut list = List {
+            settings: Settings::new(PLAIN, 12, 4_096, 0),
+            table: vec![],
+            scratch: vec![],
+            longest: 0,
+            line: 0,
+            files,
+        };
+        list.begin(list.settings);
+        list
+    }
+
+    fn begin(&mut self, s: Settings) {
+        self.take(s, vec![0; 4 * s.buckets as usize]);
+    }
+
+    fn take(&mut self, s: Settings, table: Vec<u16>) {
+        self.settings = s;
+        self.table = table;
+        self.scratch = vec![0; 2 * s.buckets as usize];
+        self.longest = 0;
+    }
+
+    fn entries(&self) -> usize {
+        self.table.iter().filter(|&&cell| cell != 0).count()
+    }
+
+    fn bad(&self, what: &str) -> Said {
+        Ok(format!("line {}: {what}", self.line))
+    }
+
+    /// What to say to each line of a script.
+    fn answers(&mut self, script: &[u8]) -> Vec<Said> {
+        lines(script).map(|line| self.answer(line)).collect()
+    }
+
+    fn answer(&mut self, line: &[u8]) -> Said {
+        self.line += 1;
+        if line.len() > LINE {
+            return self.bad(TOO_LONG);
+        }
+        let text = trimmed(line);
+        if text.is_empty() || text[0] == b'#' {
+            return Ok(raw(line));
+        }
+        let mut words = text.split(|&b| blank(b)).filter(|word| !word.is_empty());
+        let command = words.next().expect("a line that is not blank");
+        let words: Vec<&[u8]> = words.collect();
+        let (least, most) = match command {
+            b"settings" => (4, 4),
+            b"view" => (1, 1),
+            b"clear" | b"stats" | b"help" => (0, 0),
+            b"hold" | b"release" | b"lookup" => (1, LINE),
+            b"save" | b"load" | b"pack" | b"unpack" => (1, LINE),
+            _ => return self.bad(NO_COMMAND),
+        };
+        if words.len() < least {
+            return self.bad(MISSING);
+        }
+        if words.len() > most {
+            return self.bad(TOO_MUCH);
+        }
+        let rest = trimmed(&text[command.len()..]);
+        match command {
+            b"hold" | b"release" | b"lookup" => match typed(rest) {
+                Some(tag) => self.with_tag(command, &tag),
+                None => self.bad(NO_HEX),
+            },
+            b"settings" | b"view" => match words.into_iter().map(number).collect() {
+                Some(list) => self.with_numbers(list),
+                None => self.bad(NO_NUMBER),
+            },
+            b"save" | b"pack" => self.write(command, rest),
+            b"load" | b"unpack" => self.read(command, rest),
+            b"clear" => {
+                self.begin(self.settings);
+                Ok("cleared".into())
+            }
+            b"stats" => Ok(self.stats()),
+            _ => Ok(help()),
+        }
+    }
+
+    fn with_tag(&mut self, command: &[u8], tag: &[u8]) -> Said {
+        let (s, table) = (self.settings, &mut self.table);
+        Ok(match command {
+            b"hold" => {
+                let moves = table::hold(s, table, &mut self.scratch, tag)?;
+                self.longest = self.longest.max(moves);
+                match moves {
+                    1 => "accepted, 1 move".into(),
+                    _ => format!("accepted, {moves} moves"),
+                }
+            }
+            b"release" => match table::release(s, table, tag)? {
+                true => "released".into(),
+                false => "absent".into(),
+            },
+            _ => match table::lookup(s, table, tag)? {
+                true => "held".into(),
+                false => "clear".into(),
+            },
+        })
+    }
+
+    /// Settings, or the view of a bucket.
+    fn with_numbers(&mut self, list: Vec<u32>) -> Said {
+        if let [rule, width, buckets, mask] = list[..] {
+            let s = Settings::new(rule, width, buckets, mask);
+            s.check()?;
+            self.begin(s);
+            return Ok("cleared".into());
+        }
+        let bucket = list[0];
+        match table::view_check(self.settings, &self.table, bucket) {
+            0 => {
+                let cells = table::view(self.settings, &self.table, bucket);
+                let [a, b, c, d] = cells else {
+                    panic!("a bucket of {} cells", cells.len());
+                };
+                Ok(format!("bucket {bucket}: {a} {b} {c} {d}"))
+            }
+            n => Err(n),
+        }
+    }
+
+    fn stats(&self) -> String {
+        let (entries, buckets) = (self.entries(), self.settings.buckets as usize);
+        let tenths = 1_000 * entries / (4 * buckets);
+        format!(
+            "entries {entries}, buckets {buckets}, load {}.{} %, longest relocation {}",
+            tenths / 10,
+            tenths % 10,
+            self.longest
+        )
+    }
+
+    /// Why a path leads nowhere.
+    fn path_fault(&self, name: &[u8]) -> Option<&'static str> {
+        let slash = name.iter().rposition(|&b| b == b'/')?;
+        match self.files.get(&name[..slash]) {
+            None => Some(NO_FILE),
+            Some(Some(_)) => Some(NO_FOLDER),
+            Some(None) => None,
+        }
+    }
+
+    fn write_fault(&self, name: &[u8]) -> Option<&'static str> {
+        let unfinished = |digit: u8| [name, b".tmp", &[digit]].concat();
+        if let Some(fault) = self.path_fault(name) {
+            return Some(fault);
+        }
+        if (b'0'..=b'9').all(|digit| self.files.contains_key(&unfinished(digit))) {
+            return Some(TEN);
+        }
+        match self.files.get(name) {
+            Some(None) => Some(A_FOLDER),
+            _ => None,
+        }
+    }
+
+    fn write(&mut self, command: &[u8], name: &[u8]) -> Said {
+        let (what, bytes) = match command {
+            b"save" => ("saved", hold_file(self.settings, &self.table)),
+            _ => ("packed", packed_form(self.settings, &self.table)),
+        };
+        if let Some(fault) = self.write_fault(name) {
+            return self.bad(&format!("cannot write {}: {fault}", raw(name)));
+        }
+        let count = bytes.len();
+        self.files.insert(name.to_vec(), Some(bytes));
+        Ok(format!("{what}, {count} bytes"))
+    }
+
+    fn read(&mut self, command: &[u8], name: &[u8]) -> Said {
+        let fault = match (self.path_fault(name), self.files.get(name)) {
+            (Some(fault), _) => fault,
+            (None, None) => NO_FILE,
+            (None, Some(None)) => A_FOLDER,
+            (None, Some(Some(bytes))) => {
+                let bytes = bytes.clone();
+                return self.read_bytes(command, &bytes);
+            }
+        };
+        self.bad(&format!("cannot read {}: {fault}", raw(name)))
+    }
+
+    fn read_bytes(&mut self, command: &[u8], bytes: &[u8]) -> Said {
+        if command == b"load" {
+            let mut table = vec![0; 4 * buckets_named(bytes)];
+            let s = holdfile::read(bytes, &mut table)?;
+            self.take(s, table);
+            return Ok(format!(
+                "loaded, rule {}, width {}, buckets {}, mask {}",
+                s.rule, s.width, s.buckets, s.mask
+            ));
+        }
+        let count = packed::read(self.settings, bytes, &mut self.table)?;
+        self.longest = 0;
+        Ok(match count {
+            1 => "unpacked, 1 entry".to_string(),
+            _ => format!("unpacked, {count} entries"),
+        })
+    }
+}
+
+/// The lines of a script. The last may have no line end.
+fn lines(script: &[u8]) -> impl Iterator<Item = &[u8]> {
+    let whole = script.strip_suffix(b"\n").unwrap_or(script);
+    let any = !script.is_empty();
+    whole.split(|&b| b == b'\n').filter(move |_| any)
+}
+
+/// The line of help, whose words are the tool's.
+fn help() -> String {
+    static HELP: OnceLock<String> = OnceLock::new();
+    let ask = || {
+        let got = run(&Folder::new("help line"), b"help\n", Way::Input(WHOLE));
+        let line = got.strip_suffix(b"\n").expect("a line");
+        assert!(!line.is_empty() && !line.contains(&b'\n'), "one line");
+        raw(line)
+    };
+    HELP.get_or_init(ask).clone()
+}
+
+fn agrees(got: &[u8], said: &Said) -> bool {
+    match said {
+        Ok(line) => raw(got) == *line,
+        Err(n) => {
+            let start = format!("refused {n}: ");
+            got.len() > start.len() && got.starts_with(start.as_bytes())
+        }
+    }
+}
+
+/// Every line has the answer that it has to have, and there is no other.
+fn compare(name: &str, script: &[u8], said: &[Said], got: &[u8]) {
+    let answers: Vec<&[u8]> = lines(got).collect();
+    for (i, (line, said)) in lines(script).zip(said).enumerate() {
+        let answer = answers.get(i);
+        assert!(
+            answer.is_some_and(|answer| agrees(answer, said)),
+            "{name}, line {}: {}\nanswer:   {:?}\nexpected: {:?}",
+            i + 1,
+            text(line),
+            answer.map(|answer| text(answer)),
+            said.as_ref().map(|line| text(line.as_bytes()))
+        );
+    }
+    assert_eq!(answers.len(), said.len(), "{name}: the count of lines");
+    assert!(got.is_empty() || got.ends_with(b"\n"), "{name}: a line end");
+}
+
+/// Runs a script in a folder, and answers the tool's lines once they and the files are compared.
+fn check(name: &str, folder: &Folder, script: &[u8], way: Way) -> Vec<String> {
+    let mut list = List::new(folder.files());
+    let said = list.answers(script);
+    let got = run(folder, script, way);
+    compare(name, script, &said, &got);
+    same_files(&folder.files(), &list.files, name);
+    lines(&got).map(raw).collect()
+}
+
+/// The same for the lines of a short script.
+fn check_lines(name: &str, folder: &Folder, script: &[&str]) -> Vec<String> {
+    let script = script.join("\n") + "\n";
+    check(name, folder, script.as_bytes(), Way::Input(WHOLE))
+}
+
+// ── random scripts ──
+
+fn seed() -> u64 {
+    match env::var("HOLDLIST_SEED") {
+        Ok(text) => text.parse().expect("HOLDLIST_SEED is a number"),
+        Err(_) => 1,
+    }
+}
+
+/// Writes a line past the capture of a test that passes.
+fn tell(name: &str, line: &str) {
+    let line = format!("{name}, seed {}{line}\n", seed());
+    let _ = io::stderr().write_all(line.as_bytes());
+}
+
+fn mix(name: &str) -> Mix {
+    tell(name, "");
+    Mix(fnv1a(name.as_bytes()) ^ seed())
+}
+
+/// The bytes with others from a place on.
+fn with(bytes: &[u8], at: usize, others: &[u8]) -> Vec<u8> {
+    let mut bytes = bytes.to_vec();
+    bytes[at..at + others.len()].copy_from_slice(others);
+    bytes
+}
+
+/// How many sets of files there are beforehand.
+const SETS: u32 = 6;
+
+/// Files of lists that the script did not make, good and bad.
+fn prepare(mix: &mut Mix, folder: &Folder, log: u32) {
+    folder.add_folder("folder");
+    for i in 0..SETS {
+        let s = match i {
+            // One bucket, with bits to spare behind it.
+            0 => Settings::new(PLAIN, 6 + 2 * mix.below(6), 1, 0),
+            _ => settings(mix, log),
+        };
+        let kinds = [
+            Cells::Full,
+            Cells::Few,
+            Cells::Random(50),
+            Cells::Random(97),
+        ];
+        let kind = one_of(mix, &kinds);
+        let table = cells(mix, s, kind);
+        let (file, form) = (hold_file(s, &table), packed_form(s, &table));
+        folder.put(&format!("{i}.hold"), &file);
+        folder.put(&format!("{i}.pack"), &form);
+        for (name, whole) in [("hold", &file), ("pack", &form)] {
+            let mut bytes = whole.clone();
+            damage(mix, &mut bytes);
+            folder.put(&format!("bad {i}.{name}"), &bytes);
+        }
+        let filled = table.iter().filter(|&&cell| cell != 0).count();
+        let first = file.len() - s.buckets as usize - 2 * filled;
+        let last = form.len() - 1;
+        for (name, bytes) in [
+            ("head .hold", with(&file, 0, &[file[0] | 0x10])),
+            ("map .hold", with(&file, first, &[0x1f])),
+            ("row .pack", with(&form, 0, &[0xff, 0xff])),
+            ("order .pack", with(&vec![0; form.len()], 1, &[0x10])),
+            ("end .pack", with(&form, last, &[form[last] | 0x80])),
+        ] {
+            folder.put(&name.replace('.', &format!("{i}.")), &bytes);
+        }
+    }
+}
+
+/// Lines with something wrong.
+const BAD: &str = "\
+holdx a\n\
+hol a\n\
+HOLD a\n\
+h\n\
+\x00\n\
+\x0bstats\n\
+hold# a\n\
+-\n\
+settings\n\
+settings 0 12 8\n\
+settings 0 12 8 0 0\n\
+settings 0 12 x 0\n\
+settings 0 12 8 0x0\n\
+settings a b c\n\
+settings a b c d e\n\
+settings 4294967296 12 8 0\n\
+settings 0 4294967308 8 0\n\
+settings 0 12 4294967304 0\n\
+settings 0 12 8 18446744073709551616\n\
+settings -1 12 8 0\n\
+settings 0 12 8 0,\n\
+view\n\
+view 0 0\n\
+view x\n\
+view x y\n\
+view +0\n\
+view -0\n\
+view 0x0\n\
+view 0.0\n\
+view 4294967296\n\
+view 8589934592\n\
+view 18446744073709551616\n\
+view 340282366920938463463374607431768211456\n\
+view 99999999999999999999999999999999999999999999\n\
+clear all\n\
+stats now\n\
+help me\n\
+hold\n\
+release \t\n\
+lookup\r\n\
+save\n\
+load\n\
+pack\n\
+unpack\n\
+load none\n\
+unpack folder\n\
+save folder\n\
+pack none/x\n\
+load none/x\n\
+save 0.hold/x\n\
+unpack 0.hold/x\n\
+load folder/none\n\
+hold 0x1";
+
+/// A script as it grows, with what the tool has to say to it.
+struct Maker {
+    mix: Mix,
+    list: List,
+    script: Vec<u8>,
+    said: Vec<Said>,
+    /// How many different tags there are.
+    kinds: u64,
+    /// Tags that were accepted, as they were typed.
+    held: Vec<Vec<u8>>,
+    moves: u32,
+}
+
+impl Maker {
+    fn new(mix: Mix, folder: &Folder) -> Self {
+        Maker {
+            mix,
+            list: List::new(folder.files()),
+            script: vec![],
+            said: vec![],
+            kinds: 1,
+            held: vec![],
+            moves: 0,
+        }
+    }
+
+    fn line(&mut self, line: &[u8]) {
+        assert!(!line.contains(&b'\n'));
+        self.said.push(self.list.answer(line));
+        self.script.extend(line);
+        self.script.push(b'\n');
+        self.moves = self.moves.max(self.list.longest);
+    }
+
+    fn blanks(&mut self, least: usize) -> Vec<u8> {
+        if self.mix.below(12) != 0 {
+            return vec![b' '; least];
+        }
+        let count = least + self.mix.below(3) as usize;
+        (0..count)
+            .map(|_| one_of(&mut self.mix, b" \t\r"))
+            .collect()
+    }
+
+    /// A line of two parts with blanks around them.
+    fn say(&mut self, command: &str, rest: &[u8]) {
+        let parts = [
+            self.blanks(0),
+            command.into(),
+            self.blanks(1),
+            rest.into(),
+            self.blanks(0),
+        ];
+        self.line(&parts.concat());
+    }
+
+    fn say_to(&mut self, command: &str, name: String) {
+        self.say(command, name.as_bytes());
+    }
+
+    fn hex(&mut self, bytes: &[u8]) -> Vec<u8> {
+        let mut digits = to_hex(bytes).into_bytes();
+        for digit in &mut digits {
+            if self.mix.below(2) == 0 {
+                digit.make_ascii_uppercase();
+            }
+        }
+        [b"0x", &digits[..]].concat()
+    }
+
+    /// Bytes as text where they can be, or in digits.
+    fn tag_of(&mut self, bytes: &[u8]) -> Vec<u8> {
+        let as_text = !bytes.is_empty()
+            && trimmed(bytes).len() == bytes.len()
+            && !bytes.contains(&b'\n')
+            && !bytes.starts_with(b"0x");
+        match as_text && self.mix.below(3) != 0 {
+            true => bytes.to_vec(),
+            false => self.hex(bytes),
+        }
+    }
+
+    fn tag(&mut self) -> Vec<u8> {
+        let kind = self.mix.below(self.kinds);
+        let bytes = match kind % 3 {
+            0 => tag(kind),
+            1 => format!("call {kind}").into_bytes(),
+            _ => kind.to_string().into_bytes(),
+        };
+        self.tag_of(&bytes)
+    }
+
+    /// A tag that is held, as far as anyone knows, or any.
+    fn release_tag(&mut self) -> Vec<u8> {
+        if self.held.is_empty() || self.mix.below(4) == 0 {
+            return self.tag();
+        }
+        let i = self.mix.below(self.held.len() as u64) as usize;
+        self.held.swap_remove(i)
+    }
+
+    /// What is no tag, or is one in spite of its looks.
+    fn odd_tag(&mut self) -> Vec<u8> {
+        let length = one_of(&mut self.mix, &[63, 64, 65, 66, 100, 1_000]);
+        let bytes = self.mix.bytes(length);
+        let mut digits = self.hex(&bytes);
+        match self.mix.below(8) {
+            0 => digits,
+            1 => vec![b'x'; length],
+            2 => {
+                digits.pop();
+                digits
+            }
+            3 => {
+                let at = 2 + self.mix.below(2 * length as u64) as usize;
+                digits[at] = one_of(&mut self.mix, b"gG/:@`- x\x00\xff");
+                digits
+            }
+            _ => {
+                let odd: [&[u8]; 11] = [
+                    b"0x",
+                    b"0x4",
+                    b"0xg0",
+                    b"0x 41",
+                    b"0x41 42",
+                    b"0x41,42",
+                    b"0X41",
+                    b"0",
+                    b"x41",
+                    b"#",
+                    b"a\x00b\x0b",
+                ];
+                one_of(&mut self.mix, &odd).to_vec()
+            }
+        }
+    }
+
+    fn bucket(&mut self) -> String {
+        let mix = &mut self.mix;
+        let bucket = match mix.below(8) {
+            0 => self.list.settings.buckets,
+            1 => one_of(mix, &[65_535, 65_536, 1 << 31, u32::MAX]),
+            _ => mix.below(self.list.settings.buckets.into()),
+        };
+        match mix.below(8) {
+            0 => format!("{bucket:032}"),
+            _ => bucket.to_string(),
+        }
+    }
+
+    fn prepared(&mut self) {
+        let i = self.mix.below(SETS.into());
+        if self.mix.below(2) == 0 {
+            let kind = one_of(&mut self.mix, &["bad", "bad", "bad", "head", "map"]);
+            return self.say_to("load", format!("{kind} {i}.hold"));
+        }
+        self.say_to("load", format!("{i}.hold"));
+        for _ in 0..2 {
+            let kind = one_of(&mut self.mix, &["", "bad ", "row ", "order ", "end "]);
+            self.say_to("unpack", format!("{kind}{i}.pack"));
+            self.line(b"stats");
+        }
+    }
+
+    fn bad_line(&mut self) {
+        let bad: Vec<&str> = BAD.split('\n').collect();
+        let line = one_of(&mut self.mix, &bad);
+        self.line(line.as_bytes());
+    }
+
+    fn remark(&mut self) {
+        let remarks: [&[u8]; 10] = [
+            b"",
+            b" ",
+            b"\t \r",
+            b"\r",
+            b"#",
+            b"# hold a",
+            b" \t# clear \r",
+            b"#\x00\xff\x80",
+            b"\xff\xfe",
+            b"help",
+        ];
+        let line = one_of(&mut self.mix, &remarks);
+        self.line(line);
+    }
+
+    fn own_file(&mut self) {
+        let name = one_of(&mut self.mix, &["a", "b c", "folder/\u{e4}"]);
+        let command = one_of(&mut self.mix, &["save", "load", "pack", "unpack"]);
+        let end = match command {
+            "save" | "load" => "hold",
+            _ => "pack",
+        };
+        self.say_to(command, format!("{name}.{end}"));
+    }
+
+    fn step(&mut self, holds: u32) {
+        match self.mix.below(200) {
+            n if n < holds => {
+                let tag = self.tag();
+                self.say("hold", &tag);
+                if matches!(self.said.last(), Some(Ok(_))) {
+                    self.held.push(tag);
+                }
+            }
+            n if n < 140 => {
+                let tag = self.release_tag();
+                self.say("release", &tag);
+            }
+            140..=164 => {
+                let tag = self.tag();
+                self.say("lookup", &tag);
+            }
+            165..=170 => {
+                let bucket = self.bucket();
+                self.say_to("view", bucket);
+            }
+            171..=174 => self.say("stats", b""),
+            175..=176 => self.own_file(),
+            177..=179 => self.prepared(),
+            180..=189 => self.bad_line(),
+            190..=193 => self.remark(),
+            194..=197 => {
+                let command = one_of(&mut self.mix, &["hold", "release", "lookup"]);
+                let tag = self.odd_tag();
+                self.say(command, &tag);
+            }
+            198 => {
+                let s = spoil(&mut self.mix, self.list.settings);
+                self.say_to("settings", numbers(s));
+            }
+            _ if self.mix.below(8) == 0 => self.say("clear", b""),
+            _ => self.remark(),
+        }
+    }
+
+    /// One list, whose load goes up until it is full and down to a half.
+    fn part(&mut self, s: Settings, steps: u32) {
+        let cells = 4 * s.buckets;
+        self.kinds = u64::from(one_of(&mut self.mix, &[cells / 3 + 1, 2 * cells, 1 << 20]));
+        self.say_to("settings", numbers(s));
+        self.held.clear();
+        let mut up = true;
+        for _ in 0..steps {
+            self.step(if up { 125 } else { 30 });
+            if self.said.last() == Some(&Err(9)) && self.mix.below(4) == 0 {
+                up = false;
+            }
+            up |= 2 * self.list.entries() < self.list.table.len();
+        }
+    }
+}
+
+#[test]
+fn random_scripts() {
+    let name = "random scripts";
+    let mut refused = [0; 21];
+    let (mut count, mut moves) = (0, 0);
+    for round in 0..8 * long() {
+        let name = format!("{name} {round}");
+        let mut mix = mix(&name);
+        let folder = Folder::new(&name);
+        let log = if round % 2 == 0 { 4 } else { 9 };
+        prepare(&mut mix, &folder, log);
+        let mut maker = Maker::new(mix, &folder);
+        for i in 0..9 {
+            let mut s = settings(&mut maker.mix, log);
+            while s.rule != i % 3 {
+                s = settings(&mut maker.mix, log);
+            }
+            maker.part(s, 500);
+        }
+        let got = run(&folder, &maker.script, Way::Input(WHOLE));
+        compare(&name, &maker.script, &maker.said, &got);
+        same_files(&folder.files(), &maker.list.files, &name);
+        for n in maker.said.iter().filter_map(|said| said.as_ref().err()) {
+            refused[*n as usize] += 1;
+        }
+        count += maker.said.len();
+        moves = moves.max(maker.moves);
+    }
+    tell(
+        name,
+        &format!(": {count} lines; refused {refused:?}; most moves {moves}"),
+    );
+    for n in [1, 2, 3, 4, 7, 8, 9, 11, 12, 13, 14, 15, 18, 19, 20] {
+        assert!(refused[n] > 0, "no line was refused with {n}");
+    }
+    assert!(moves > 2, "no hold had more than {moves} moves");
+}
+
+/// The same script by each way to hand it over.
+#[test]
+fn every_way() {
+    let name = "every way";
+    let ways = [
+        Way::Argument,
+        Way::Input(WHOLE),
+        Way::Input(&[1]),
+        Way::Input(&[7]),
+        Way::Input(&[1_000]),
+        Way::Input(&[65_536, 1, 65_535, 3, 4_097]),
+    ];
+    let mut mix = mix(name);
+    let start = mix.draw();
+    let folder = Folder::new(name);
+    prepare(&mut Mix(start), &folder, 6);
+    let mut maker = Maker::new(mix, &folder);
+    for rule in [PLAIN, RING, MASKED] {
+        maker.part(Settings::new(rule, 9, 16, 0), 900);
+    }
+    // A line that is too long among the others.
+    maker.line(&[b'#'; LINE + 10]);
+    maker.line(b"hold last");
+    maker.line(b"stats");
+    let whole = maker.script;
+    let with_returns: Vec<u8> = whole
+        .split_inclusive(|&b| b == b'\n')
+        .flat_map(|line| [&line[..line.len() - 1], b"\r\n"].concat())
+        .collect();
+    let mut first = None;
+    for (end, script) in [
+        ("line ends", &whole[..]),
+        ("no last line end", &whole[..whole.len() - 1]),
+        ("carriage returns", &with_returns[..]),
+        (
+            "carriage returns, no last line end",
+            &with_returns[..with_returns.len() - 2],
+        ),
+    ] {
+        for way in ways {
+            let name = format!("{name}, {end}, {way:?}");
+            // The files as they were.
+            let folder = Folder::new("every way again");
+            prepare(&mut Mix(start), &folder, 6);
+            let answers = check(&name, &folder, script, way);
+            // A remark comes back with its carriage return, and nothing else tells the two apart.
+            let plain: Vec<String> = answers
+                .into_iter()
+                .map(|line| line.trim_end_matches('\r').to_string())
+                .collect();
+            let first = first.get_or_insert_with(|| plain.clone());
+            assert_eq!(plain.len(), first.len(), "{name}");
+            for (i, (a, b)) in plain.iter().zip(first.iter()).enumerate() {
+                assert_eq!(a, b, "{name}, line {}", i + 1);
+            }
+        }
+    }
+}
+
+/// An answer does not wait for the next line.
+#[test]
+fn answers_come_at_once() {
+    let folder = Folder::new("at once");
+    let mut child = command(&folder)
+        .stdin(Stdio::piped())
+        .stdout(Stdio::piped())
+        .spawn()
+        .expect("the tool starts");
+    let mut to = child.stdin.take().expect("a pipe");
+    let from = BufReader::new(child.stdout.take().expect("a pipe"));
+    let (send, answers) = mpsc::channel();
+    let reader = thread::spawn(move || {
+        for line in from.lines() {
+            let _ = send.send(line.expect("a line"));
+        }
+    });
+    let next = || answers.recv_timeout(Duration::from_secs(20));
+    to.write_all(b"hold a\n").expect("a pipe");
+    assert_eq!(next().as_deref(), Ok("accepted, 0 moves"));
+    to.write_all(b"loo").expect("a pipe");
+    assert!(answers.recv_timeout(Duration::from_millis(50)).is_err());
+    to.write_all(b"kup a\n\nlookup ").expect("a pipe");
+    assert_eq!(next().as_deref(), Ok("held"));
+    assert_eq!(next().as_deref(), Ok(""));
+    to.write_all(b"b").expect("a pipe");
+    drop(to);
+    assert_eq!(next().as_deref(), Ok("clear"));
+    assert!(next().is_err());
+    assert!(child.wait().expect("the tool ends").success());
+    reader.join().expect("the reader ends");
+}
+
+// ── answers that are known ──
+
+#[test]
+fn known_answers() {
+    let folder = Folder::new("known answers");
+    let pairs = [
+        (
+            "stats",
+            "entries 0, buckets 4096, load 0.0 %, longest relocation 0",
+        ),
+        // "a" hashes to af63dc4c8601ec8c.
+        ("hold a", "accepted, 0 moves"),
+        ("view 3148", "bucket 3148: 3212 0 0 0"),
+        ("lookup 0x61", "held"),
+        ("save f", "saved, 4099 bytes"),
+        ("pack p", "packed, 22528 bytes"),
+        ("settings 0 4 1 0", "cleared"),
+        ("lookup a", "clear"),
+        ("hold a", "accepted, 0 moves"),
+        ("hold a", "accepted, 0 moves"),
+        ("view 0", "bucket 0: 12 12 0 0"),
+        (
+            "stats",
+            "entries 2, buckets 1, load 50.0 %, longest relocation 0",
+        ),
+        ("release a", "released"),
+        ("release a", "released"),
+        ("release a", "absent"),
+        ("load f", "loaded, rule 0, width 12, buckets 4096, mask 0"),
+        ("lookup a", "held"),
+        ("clear", "cleared"),
+        ("unpack p", "unpacked, 1 entry"),
+        ("view 3148", "bucket 3148: 0 0 0 3212"),
+        ("  # as it is\t", "  # as it is\t"),
+        ("\t", "\t"),
+        ("settings 1 16 6 0", "cleared"),
+        ("hold a b", "accepted, 0 moves"),
+        ("lookup 0x612062", "held"),
+        ("lookup a  b", "clear"),
+        (
+            "stats",
+            "entries 1, buckets 6, load 4.1 %, longest relocation 0",
+        ),
+        (
+            "hold 0x6",
+            "line 28: what stands after 0x is not pairs of hexadecimal digits",
+        ),
+        (
+            "holds a",
+            "line 29: there is no such command; help names them",
+        ),
+        ("hold", "line 30: something is missing after the command"),
+        ("stats 1", "line 31: there is too much after the command"),
+        (
+            "view a",
+            "line 32: what should be a number is none below 4294967296",
+        ),
+        (
+            "load g",
+            "line 33: cannot read g: there is no such file or folder",
+        ),
+        (
+            "save g/h",
+            "line 34: cannot write g/h: there is no such file or folder",
+        ),
+    ];
+    let script: Vec<&str> = pairs.iter().map(|pair| pair.0).collect();
+    let answers = check_lines("known answers", &folder, &script);
+    for ((line, expected), answer) in pairs.iter().zip(&answers) {
+        assert_eq!(answer, expected, "{line}");
+    }
+    assert_eq!(folder.names(), ["f", "p"]);
+}
+
+/// One move and more, and the longest of them, which some commands forget.
+#[test]
+fn moves() {
+    let name = "moves";
+    let mut mix = mix(name);
+    let folder = Folder::new(name);
+    let mut maker = Maker::new(Mix(mix.draw()), &folder);
+    maker.line(b"settings 0 8 64 0");
+    let mut seen = [0; 3];
+    while maker.list.entries() < 250 {
+        let tag = mix.draw().to_string();
+        maker.say_to("hold", tag);
+        match maker.said.last() {
+            Some(Ok(line)) if line == "accepted, 0 moves" => seen[0] += 1,
+            Some(Ok(line)) if line == "accepted, 1 move" => seen[1] += 1,
+            Some(Ok(_)) => seen[2] += 1,
+            _ => {}
+        }
+        assert!(maker.said.len() < 5_000, "the list does not fill up");
+    }
+    assert!(seen.iter().all(|&n| n > 0), "{seen:?}");
+    // What is refused forgets nothing, and what is taken does.
+    for line in [
+        "stats",
+        "save f",
+        "pack p",
+        "settings 0 8 63 0",
+        "load none",
+        "load p",
+        "unpack f",
+        "hold 0x",
+        "view 64",
+        "stats",
+        "load f",
+        "stats",
+    ] {
+        maker.line(line.as_bytes());
+    }
+    assert!(maker.moves > 1 && maker.list.longest == 0);
+    for line in ["unpack p", "clear", "settings 0 8 64 0"] {
+        maker.line(b"load f");
+        while maker.list.longest == 0 {
+            let tag = mix.draw().to_string();
+            maker.say_to("hold", tag);
+            // Now and then one of those in the list.
+            let other = mix.draw().to_string();
+            maker.say_to("release", other);
+            assert!(maker.said.len() < 50_000, "no hold needs a move");
+        }
+        maker.line(b"stats");
+        maker.line(line.as_bytes());
+        maker.line(b"stats");
+        assert_eq!(maker.list.longest, 0, "{line}");
+    }
+    let got = run(&folder, &maker.script, Way::Input(WHOLE));
+    compare(name, &maker.script, &maker.said, &got);
+}
+
+/// Every number that a line can be refused with has a meaning of its own.
+#[test]
+fn meanings() {
+    let folder = Folder::new("meanings");
+    let file = hold_file(Settings::new(PLAIN, 4, 1, 0), &[0, 9, 0, 3]);
+    folder.put("short", &file[..8]);
+    folder.put("head", &with(&file, 0, &[0x16]));
+    folder.put("map", &with(&file, 4, &[0x1a]));
+    folder.put("print", &with(&file, 5, &[0]));
+    folder.put("more", &[&file[..], &[0]].concat());
+    folder.put("row", &[0xff, 0x0f, 0]);
+    folder.put("order", &[0, 0x10, 0]);
+    folder.put("end", &[0, 0, 0x10]);
+    let refusals = [
+        ("settings 3 12 8 0", 1),
+        ("settings 0 3 8 0", 2),
+        ("settings 0 12 3 0", 3),
+        ("settings 0 12 8 1", 4),
+        ("hold 0x", 7),
+        ("view 4096", 8),
+        ("hold a", 9),
+        ("load short", 11),
+        ("load head", 12),
+        ("load map", 13),
+        ("load print", 14),
+        ("load more", 15),
+        ("unpack row", 18),
+        ("unpack order", 19),
+        ("unpack end", 20),
+    ];
+    let mut script = vec!["settings 0 6 1 0"];
+    script.extend(["hold a"; 4]);
+    script.extend(refusals.iter().map(|refusal| refusal.0));
+    let answers = check_lines("meanings", &folder, &script);
+    let mut meanings: Vec<&str> = vec![];
+    for ((line, n), answer) in refusals.iter().zip(&answers[5..]) {
+        let start = format!("refused {n}: ");
+        let meaning = answer.strip_prefix(&start);
+        let meaning = meaning.unwrap_or_else(|| panic!("{line}: {answer}"));
+        assert!(meaning.len() > 10, "{line}: {answer}");
+        assert!(!meanings.contains(&meaning), "{line}: {answer}");
+        meanings.push(meaning);
+    }
+}
+
+#[test]
+fn help_names_every_command() {
+    let folder = Folder::new("help");
+    let answers = check_lines("help", &folder, &["help", " help\t"]);
+    assert_eq!(answers[0], answers[1]);
+    for command in [
+        "settings", "hold", "release", "lookup", "view", "clear", "save", "load", "pack", "unpack",
+        "stats", "help",
+    ] {
+        let named = |word: &str| word.trim_matches([',', ';']) == command;
+        assert!(answers[0].split(' ').any(named), "{command}");
+    }
+}
+
+// ── the largest lists ──
+
+#[test]
+fn largest_lists() {
+    let name = "largest lists";
+    let mut mix = mix(name);
+    for (s, holds) in [
+        (Settings::new(PLAIN, 16, 65_536, 0), 200_000),
+        (Settings::new(RING, 16, 65_536, 0), 200_000),
+        (Settings::new(MASKED, 16, 65_536, 0x0ff0), 250_000),
+    ] {
+        let folder = Folder::new(&format!("{name} {}", s.rule));
+        let mut script = format!("settings {}\n", numbers(s));
+        for _ in 0..holds {
+            match mix.below(2) {
+                0 => script += &format!("hold {}\n", mix.draw()),
+                _ => script += &format!("hold 0x{:016x}\n", mix.draw()),
+            }
+        }
+        script += "stats\nsave f\npack p\nload f\nstats\nview 65535\nsave g\n";
+        script += "clear\nunpack p\nstats\nview 65535\nsave h\npack q\n";
+        let answers = check(name, &folder, script.as_bytes(), Way::Argument);
+        let accepted = answers.iter().filter(|line| line.starts_with("accepted"));
+        assert_eq!(accepted.count(), holds);
+        let stats: Vec<&String> = answers
+            .iter()
+            .filter(|line| line.starts_with("entries"))
+            .collect();
+        let load = 1_000 * holds / 262_144;
+        let start = format!(
+            "entries {holds}, buckets 65536, load {}.{} %, longest relocation ",
+            load / 10,
+            load % 10
+        );
+        assert!(stats.iter().all(|line| line.starts_with(&start)));
+        assert!(!stats[0].ends_with(" 0"), "{}", stats[0]);
+        assert!(stats[1].ends_with(" 0") && stats[2].ends_with(" 0"));
+        assert_eq!(folder.get("f"), folder.get("g"));
+        assert_eq!(folder.get("p"), folder.get("q"));
+        assert_eq!(folder.get("p").len(), 491_520);
+        tell(name, &format!(", rule {}: {}", s.rule, stats[0]));
+    }
+}
+
+/// Files that are as long as any can be, and longer.
+#[test]
+fn fullest_files() {
+    let name = "fullest files";
+    let mut mix = mix(name);
+    let folder = Folder::new(name);
+    let s = Settings::new(MASKED, 16, 65_536, 0x5a5a);
+    let table = cells(&mut mix, s, Cells::Full);
+    let file = hold_file(s, &table);
+    assert_eq!(file.len(), 589_831);
+    folder.put("full", &file);
+    for (name, more) in [("one more", 1), ("two more", 2), ("far more", 1_000_000)] {
+        let more = mix.bytes(more);
+        folder.put(name, &[&file[..], &more].concat());
+    }
+    folder.put("one less", &file[..589_830]);
+    folder.put("packed", &packed_form(s, &table));
+    folder.put("zeros", &vec![0; 2_000_000]);
+    let answers = check_lines(
+        name,
+        &folder,
+        &[
+            "load full",
+            "stats",
+            "hold a",
+            "view 65535",
+            "view 65536",
+            "save again",
+            "pack packed again",
+            "load one more",
+            "load two more",
+            "load far more",
+            "load one less",
+            "load zeros",
+            "unpack full",
+            "unpack zeros",
+            "stats",
+            "unpack packed",
+            "stats",
+            "save sorted",
+            "settings 0 4 65536 0",
+            "unpack packed",
+            "load sorted",
+            "hold a",
+        ],
+    );
+    assert_eq!(
+        answers[0],
+        "loaded, rule 2, width 16, buckets 65536, mask 23130"
+    );
+    let stats = "entries 262144, buckets 65536, load 100.0 %, longest relocation 0";
+    assert_eq!([&answers[1], &answers[14], &answers[16]], [stats; 3]);
+    assert!(answers[2].starts_with("refused 9: "));
+    assert_eq!(answers[5], "saved, 589831 bytes");
+    assert!(folder.get("again") == file);
+    for answer in &answers[7..=9] {
+        assert!(answer.starts_with("refused 15: "), "{answer}");
+    }
+}
+
+// ── files ──
+
+#[test]
+fn files_that_cannot_be_had() {
+    let folder = Folder::new("no files");
+    folder.add_folder("folder");
+    folder.add_folder("folder/filled");
+    folder.put("folder/filled/f", b"here before");
+    folder.put("empty", b"");
+    let mut script = vec!["settings 0 12 8 0", "hold a", "stats"];
+    for line in [
+        "load none",
+        "unpack none",
+        "load folder",
+        "unpack folder",
+        "load none/f",
+        "load empty/f",
+        "save folder",
+        "pack folder",
+        "save folder/filled",
+        "save none/f",
+        "pack none/f",
+        "save empty/f",
+        "load empty",
+        "unpack empty",
+    ] {
+        script.extend([line, "stats", "lookup a"]);
+    }
+    script.extend(["save folder/f", "load folder/f", "lookup a"]);
+    let answers = check_lines("no files", &folder, &script);
+    let stats = "entries 1, buckets 8, load 3.1 %, longest relocation 0";
+    assert_eq!(answers.iter().filter(|&line| line == stats).count(), 15);
+    assert_eq!(
+        answers[3],
+        "line 4: cannot read none: there is no such file or folder"
+    );
+    assert_eq!(answers[9], "line 10: cannot read folder: it is a folder");
+    assert_eq!(answers[21], "line 22: cannot write folder: it is a folder");
+    let names = [
+        "empty",
+        "folder",
+        "folder/f",
+        "folder/filled",
+        "folder/filled/f",
+    ];
+    assert_eq!(folder.names(), names);
+}
+
+/// Names that no file can have.
+#[test]
+fn names_that_cannot_be() {
+    let folder = Folder::new("no names");
+    let long = "n".repeat(300);
+    let longer = "n".repeat(5_000);
+    // The unfinished file's name is five bytes longer.
+    let (fits, too_long) = ("m".repeat(250), "m".repeat(251));
+    folder.put(&too_long, b"here before");
+    let mut script = vec![];
+    for name in ["a\0b", &long, &longer] {
+        for command in ["save", "load", "pack", "unpack"] {
+            script.push(format!("{command} {name}"));
+        }
+    }
+    script.push(format!("save {too_long}"));
+    script.push(format!("save {fits}"));
+    script.push(format!("load {fits}"));
+    let got = run(&folder, script.join("\n").as_bytes(), Way::Input(WHOLE));
+    let got = String::from_utf8(got).expect("text");
+    let answers: Vec<&str> = got.lines().collect();
+    assert_eq!(answers.len(), script.len());
+    for (i, (line, answer)) in script.iter().zip(&answers).take(13).enumerate() {
+        let (command, name) = line.split_once(' ').expect("two words");
+        let what = match command {
+            "save" | "pack" => "write",
+            _ => "read",
+        };
+        let reason = match i {
+            0..=3 => "the name is not one of a file",
+            _ => "the name is too long",
+        };
+        let expected = format!("line {}: cannot {what} {name}: {reason}", i + 1);
+        assert_eq!(*answer, expected);
+    }
+    assert_eq!(answers[13], "saved, 4097 bytes");
+    assert!(answers[14].starts_with("loaded, "));
+    assert_eq!(folder.names(), [&fits[..], &too_long]);
+    assert_eq!(folder.get(&too_long), b"here before");
+}
+
+#[test]
+fn read_only_folder() {
+    let folder = Folder::new("read only");
+    folder.add_folder("shut");
+    folder.put("shut/f", b"here before");
+    folder.put("hidden", b"here before");
+    let mode = |name: &str, mode: u32| {
+        fs::set_permissions(folder.path(name), fs::Permissions::from_mode(mode)).expect("a mode")
+    };
+    mode("shut", 0o555);
+    mode("hidden", 0o000);
+    let bound = fs::write(folder.path("shut/try"), b"").is_err();
+    let script = b"save shut/f\npack shut/g\nload hidden\nstats\n";
+    let got = run(&folder, script, Way::Input(WHOLE));
+    mode("shut", 0o755);
+    mode("hidden", 0o644);
+    if !bound {
+        tell(
+            "read-only folder",
+            ": skipped, permissions do not bind here",
+        );
+        return;
+    }
+    let expected = "line 1: cannot write shut/f: permission denied\n\
+                    line 2: cannot write shut/g: permission denied\n\
+                    line 3: cannot read hidden: permission denied\n\
+                    entries 0, buckets 4096, load 0.0 %, longest relocation 0\n";
+    assert_eq!(String::from_utf8_lossy(&got), expected);
+    assert_eq!(folder.names(), ["hidden", "shut", "shut/f"]);
+    assert_eq!(folder.get("shut/f"), b"here before");
+}
+
+#[test]
+fn files_of_other_lists() {
+    let name = "files of other lists";
+    let mut mix = mix(name);
+    let folder = Folder::new(name);
+    let all = [
+        Settings::new(PLAIN, 12, 8, 0),
+        Settings::new(PLAIN, 12, 16, 0),
+        Settings::new(PLAIN, 12, 4_096, 0),
+        Settings::new(RING, 12, 8, 0),
+        Settings::new(RING, 4, 6, 0),
+        Settings::new(MASKED, 12, 8, 3),
+        // Forms that are as long as others, of other widths.
+        Settings::new(PLAIN, 5, 8, 0),
+        Settings::new(PLAIN, 9, 4, 0),
+        Settings::new(MASKED, 16, 1, 0),
+    ];
+    for (i, &s) in all.iter().enumerate() {
+        let table = cells(&mut mix, s, Cells::Random(60));
+        folder.put(&format!("{i}.hold"), &hold_file(s, &table));
+        folder.put(&format!("{i}.pack"), &packed_form(s, &table));
+    }
+    let mut script = String::new();
+    for i in 0..all.len() {
+        for j in 0..all.len() {
+            script += &format!("load {i}.hold\nhold a\nstats\nunpack {j}.pack\nstats\nlookup a\n");
+            script += &format!("view 0\nunpack {j}.hold\nload {j}.pack\nstats\nview 1\nsave s\n");
+        }
+    }
+    let answers = check(name, &folder, script.as_bytes(), Way::Input(WHOLE));
+    // With the first list's settings: more bytes, fewer, and as many with another rule.
+    let count = |start: &str| {
+        let unpacks = answers.chunks(12).map(|group| &group[3]);
+        unpacks.filter(|line| line.starts_with(start)).count()
+    };
+    assert!(count("refused 15: ") > 9 && count("refused 11: ") > 9);
+    assert!(count("unpacked, ") > all.len());
+    assert_eq!(answers[0], "loaded, rule 0, width 12, buckets 8, mask 0");
+    assert!(answers[12 * 3 + 3].starts_with("unpacked, "));
+    assert!(answers[12 * 5 + 3].starts_with("unpacked, "));
+}
+
+/// A file that is refused leaves the list and what is known of it alone.
+#[test]
+fn damaged_files() {
+    let name = "damaged files";
+    let mut mix = mix(name);
+    let folder = Folder::new(name);
+    let s = Settings::new(RING, 11, 10, 0);
+    let mut script = format!("settings {}\n", numbers(s));
+    for i in 0..36 {
+        script += &format!("hold {i}\n");
+    }
+    let look = || {
+        let views: String = (0..10).map(|i| format!("view {i}\n")).collect();
+        format!("stats\n{views}")
+    };
+    script += &look();
+    script += "save before.hold\npack before.pack\n";
+    let table = cells(&mut mix, s, Cells::Random(70));
+    let mut bad = vec![];
+    for (end, whole) in [
+        ("hold", hold_file(s, &table)),
+        ("pack", packed_form(s, &table)),
+    ] {
+        let mut put = |kind: &str, bytes: &[u8]| {
+            let file = format!("{kind}.{end}");
+            folder.put(&file, bytes);
+            bad.push(file);
+        };
+        put("empty", b"");
+        put("first", &whole[..1]);
+        put("half", &whole[..whole.len() / 2]);
+        put("short", &whole[..whole.len() - 1]);
+        put("more", &[&whole[..], &[0]].concat());
+        put("twice", &[&whole[..], &whole].concat());
+        put("wrong", &with(&whole, 0, &[0xff, 0xff]));
+        // As good as any until its last bucket, which is five bytes of a packed form.
+        let at = whole.len() - 5;
+        let late = match end {
+            "hold" => with(&whole, at + 4, &[0xff]),
+            _ => with(&whole, at, &[0xff, 0xff]),
+        };
+        put("late", &late);
+    }
+    for file in &bad {
+        let command = if file.ends_with("hold") {
+            "load"
+        } else {
+            "unpack"
+        };
+        script += &format!("{command} {file}\n{}", look());
+        script += "save after.hold\npack after.pack\n";
+    }
+    let answers = check(name, &folder, script.as_bytes(), Way::Input(WHOLE));
+    let shown = &answers[37..37 + 13];
+    assert!(
+        !shown[0].ends_with(" 0"),
+        "no hold had a move: {}",
+        shown[0]
+    );
+    let groups: Vec<&[String]> = answers[37 + 13..].chunks(14).collect();
+    assert_eq!(groups.len(), bad.len());
+    let mut taken = 0;
+    for (group, file) in groups.iter().zip(&bad) {
+        if group[0].starts_with("refused ") {
+            assert_eq!(group[1..], *shown, "{file}");
+        } else {
+            taken += 1;
+        }
+    }
+    assert_eq!(taken, 0, "every file is to be refused");
+    for end in ["hold", "pack"] {
+        let [before, after] = ["before", "after"].map(|name| folder.get(&format!("{name}.{end}")));
+        assert!(before == after, "{end}");
+    }
+}
+
+#[test]
+fn saved_over() {
+    let name = "saved over";
+    let mut mix = mix(name);
+    let folder = Folder::new(name);
+    folder.put("f", &mix.bytes(600_000));
+    folder.put("g", b"");
+    let answers = check_lines(
+        name,
+        &folder,
+        &[
+            "save f",
+            "save g",
+            "settings 2 7 4 1",
+            "hold a",
+            "pack f",
+            "save g",
+            "settings 1 16 65536 0",
+            "hold a",
+            "save f",
+            "pack g",
+            "load f",
+            "unpack g",
+            "settings 0 4 1 0",
+            "hold a",
+            "save f",
+            "save f",
+            "pack g",
+        ],
+    );
+    assert_eq!(answers[14], "saved, 7 bytes");
+    assert_eq!(folder.get("f"), [6, 4, 0, 0, 1, 12, 0]);
+    assert_eq!(folder.get("g").len(), 2);
+    assert_eq!(folder.names(), ["f", "g"]);
+}
+
+#[test]
+fn unfinished_files() {
+    let folder = Folder::new("unfinished files");
+    folder.put("f", b"here before");
+    folder.put("f.tmp0", b"in the way");
+    folder.put("f.tmp2", b"not in the way");
+    folder.put("none.tmp0", b"in the way");
+    for digit in 0..10 {
+        folder.put(&format!("ten.tmp{digit}"), b"in the way");
+        folder.put(&format!("nine.tmp{digit}"), b"in the way");
+    }
+    folder.put("ten", b"here before");
+    fs::remove_file(folder.path("nine.tmp9")).expect("a file");
+    folder.add_folder("folder");
+    folder.add_folder("folder.tmp0");
+    // A link that leads nowhere is in the way too.
+    let link = folder.path("link.tmp0");
+    symlink("elsewhere", &link).expect("a link");
+    let script = b"settings 0 12 8 0\nhold a\nsave f\npack none\nsave ten\npack ten\nstats\n\
+                   save nine\nsave folder\nsave link\nload f\n";
+    let got = run(&folder, script, Way::Input(WHOLE));
+    let expected = "cleared\naccepted, 0 moves\nsaved, 13 bytes\npacked, 44 bytes\n\
+                    line 5: cannot write ten: unfinished files are in the way, of the same name with .tmp0 to .tmp9\n\
+                    line 6: cannot write ten: unfinished files are in the way, of the same name with .tmp0 to .tmp9\n\
+                    entries 1, buckets 8, load 3.1 %, longest relocation 0\n\
+                    saved, 13 bytes\nline 9: cannot write folder: it is a folder\n\
+                    saved, 13 bytes\nloaded, rule 0, width 12, buckets 8, mask 0\n";
+    assert_eq!(String::from_utf8_lossy(&got), expected);
+    assert!(link.is_symlink() && !folder.path("elsewhere").exists());
+    fs::remove_file(link).expect("a link");
+    assert!(!folder.path("f.tmp1").exists() && !folder.path("nine.tmp9").exists());
+    assert_eq!(folder.get("f.tmp0"), b"in the way");
+    assert_eq!(folder.get("f.tmp2"), b"not in the way");
+    assert_eq!(folder.get("ten"), b"here before");
+    assert_eq!(folder.get("f"), folder.get("nine"));
+    // Ten of ten, nine of nine, two of f, one of none, the five written or kept and two folders.
+    assert_eq!(folder.names().len(), 10 + 9 + 2 + 1 + 5 + 2);
+}
+
+/// A write that stops in the middle leaves the old file, and nothing beside it.
+#[test]
+fn failed_writes() {
+    let folder = Folder::new("failed writes");
+    folder.put("f", b"here before");
+    // Files may have 16 blocks of 512 or 1024 bytes, and a write beyond that fails.
+    let limit = r#"trap '' XFSZ; ulimit -f 16 || exit 9; exec "$0""#;
+    let mut command = Command::new("sh");
+    command.args(["-c", limit]).arg(tool());
+    command.current_dir(&folder.0);
+    let script = b"settings 0 16 65536 0\nhold a\nsave f\npack f\nsave g\nstats\n\
+                   settings 0 16 8 0\nsave h\n";
+    let output = talk(&mut command, script, WHOLE);
+    let answers = String::from_utf8(output.stdout).expect("text");
+    let answers: Vec<&str> = answers.lines().collect();
+    assert_eq!(answers.len(), 8, "{answers:?}");
+    for (i, name) in [(3, "f"), (4, "f"), (5, "g")] {
+        let start = format!("line {i}: cannot write {name}: ");
+        let answer = answers[i - 1];
+        assert!(
+            answer.starts_with(&start) && answer.len() > start.len(),
+            "{answer}"
+        );
+    }
+    let stats = "entries 1, buckets 65536, load 0.0 %, longest relocation 0";
+    assert_eq!(answers[5..], [stats, "cleared", "saved, 12 bytes"]);
+    assert_eq!(folder.names(), ["f", "h"]);
+    assert_eq!(folder.get("f"), b"here before");
+}
+
+// ── long lines ──
+
+/// A text with blanks before it, up to so many bytes.
+fn padded(line: &str, length: usize) -> Vec<u8> {
+    let mut all = vec![b' '; length - line.len()];
+    all.extend(line.bytes());
+    all
+}
+
+#[test]
+fn long_lines() {
+    let name = "long lines";
+    let lengths = [
+        65_533, 65_534, 65_535, 65_536, 65_537, 65_538, 131_070, 131_071, 131_072, 131_073, 200_000,
+    ];
+    let folder = Folder::new(name);
+    for way in [
+        Way::Argument,
+        Way::Input(WHOLE),
+        Way::Input(&[1_000]),
+        Way::Input(&[LINE]),
+        Way::Input(&[LINE + 1]),
+    ] {
+        for length in lengths {
+            let fits = length <= LINE;
+            let name = format!("{name}, {length} bytes, {way:?}");
+            // The last has no line end.
+            let script = [
+                b"hold a".to_vec(),
+                padded("hold b", length),
+                b"stats".to_vec(),
+                padded("clear", length),
+                b"lookup a".to_vec(),
+                b"no command".to_vec(),
+                vec![b'#'; length],
+                vec![b' '; length],
+                b"stats".to_vec(),
+                padded("hold a", length),
+            ];
+            let answers = check(&name, &folder, &script.join(&b'\n'), way);
+            let long = |i: usize| format!("line {i}: the line is longer than 65535 bytes");
+            assert_eq!(answers.len(), 10, "{name}");
+            match fits {
+                true => {
+                    assert_eq!(answers[1], "accepted, 0 moves", "{name}");
+                    assert_eq!(answers[4], "clear", "{name}");
+                    assert_eq!(answers[6].len(), length, "{name}");
+                    assert_eq!(answers[7].len(), length, "{name}");
+                    assert_eq!(answers[9], "accepted, 0 moves", "{name}");
+                }
+                false => {
+                    for i in [2, 4, 7, 8, 10] {
+                        assert_eq!(answers[i - 1], long(i), "{name}");
+                    }
+                    assert_eq!(answers[4], "held", "{name}");
+                }
+            }
+            assert_eq!(
+                answers[5],
+                "line 6: there is no such command; help names them"
+            );
+        }
+    }
+}
+
+/// Lines that are as long as can be, with everything that may be long.
+#[test]
+fn long_arguments() {
+    let folder = Folder::new("long arguments");
+    let text = "hold ".to_string() + &"a".repeat(LINE - 5);
+    let even = "hold 0x".to_string() + &"1f".repeat((LINE - 7) / 2);
+    let odd = &even[..even.len() - 1];
+    let wrong = odd.to_string() + "g";
+    let zeros = "view ".to_string() + &"0".repeat(LINE - 6) + "7";
+    let nines = "view ".to_string() + &"9".repeat(LINE - 5);
+    let words = "settings".to_string() + &" 1".repeat((LINE - 8) / 2);
+    let gap = "lookup ".to_string() + &" ".repeat(LINE - 8) + "a";
+    let unknown = "x".repeat(LINE);
+    let lines = [
+        &text[..],
+        &even,
+        &even[..even.len() - 2],
+        odd,
+        &wrong,
+        &zeros,
+        &nines,
+        &words,
+        &gap,
+        &unknown,
+    ];
+    assert!(lines.iter().all(|line| line.len() <= LINE));
+    let answers = check_lines("long arguments", &folder, &lines);
+    let starts = [
+        "refused 7: ",
+        "refused 7: ",
+        "refused 7: ",
+        "line 4: what stands after 0x",
+        "line 5: what stands after 0x",
+        "bucket 7: 0 0 0 0",
+        "line 7: what should be a number is none",
+        "line 8: there is too much",
+        "clear",
+        "line 10: there is no such command",
+    ];
+    for (answer, start) in answers.iter().zip(starts) {
+        assert!(answer.starts_with(start), "{answer}: {start}");
+    }
+}
+
+// ── arguments ──
+
+#[test]
+fn arguments() {
+    let folder = Folder::new("arguments");
+    folder.put("script", b"stats\n");
+    folder.put("empty", b"");
+    let given = |args: &[&str]| {
+        let output = talk(command(&folder).args(args), b"help\n", WHOLE);
+        let both = [output.stdout, output.stderr];
+        both.map(|bytes| String::from_utf8(bytes).expect("text"))
+    };
+    let stats = "entries 0, buckets 4096, load 0.0 %, longest relocation 0\n";
+    assert_eq!(given(&["script"]), [stats, ""]);
+    assert_eq!(given(&["empty"]), ["", ""]);
+    for args in [&["script", "script"][..], &["script", "script", "script"]] {
+        let [out, error] = given(args);
+        let usage = out + &error;
+        assert!(usage.starts_with("usage: gedrunelj "), "{usage}");
+        assert_eq!(usage.lines().count(), 1, "{usage}");
+    }
+    for missing in ["none", "none/script", "script/none", ""] {
+        let [out, error] = given(&[missing]);
+        assert_eq!(out, "", "{missing}");
+        assert!(
+            error.starts_with(missing) && error.ends_with('\n'),
+            "{error}"
+        );
+        assert!(error.len() > missing.len() + 3, "{error}");
+    }
+    // A folder can be opened, but not read.
+    let [out, error] = given(&["."]);
+    assert_eq!(out, "");
+    assert!(error.lines().count() == 1 && error.len() > 20, "{error}");
+    assert_eq!(given(&[]), [help() + "\n", String::new()]);
+}
+
+/// No input, and input that is no text.
+#[test]
+fn any_input() {
+    let name = "any input";
+    let mut mix = mix(name);
+    let folder = Folder::new(name);
+    for script in [&b""[..], b"\n", b"\n\n", b" ", b"\r\n", b"#"] {
+        check(name, &folder, script, Way::Input(WHOLE));
+        check(name, &folder, script, Way::Argument);
+    }
+    for _ in 0..20 * long() {
+        let length = mix.below(100_000) as usize;
+        let mut script = mix.bytes(length);
+        // Most lines short, some with a command.
+        for i in 0..length / 20 {
+            let at = mix.below(length as u64) as usize;
+            let commands: [&[u8]; 6] =
+                [b"hold ", b"lookup ", b"release ", b"view ", b"stats", b"#"];
+            let command = one_of(&mut mix, &commands);
+            if i % 2 == 0 && at > 0 && at + command.len() < length {
+                script[at - 1] = b'\n';
+                script[at..at + command.len()].copy_from_slice(command);
+            } else {
+                script[at] = b'\n';
+            }
+        }
+        check(name, &folder, &script, Way::Input(WHOLE));
+    }
+}
