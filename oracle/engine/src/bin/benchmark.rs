@@ -4,8 +4,7 @@
 //! their ratio: below 1.00 the engine is faster. Both are optimised; the engine is called through
 //! the C boundary, the other implementation through functions that are not inlined.
 //!
-//!     rt staticlib holdlist
-//!     cargo run --release --offline --locked --manifest-path oracle/engine/Cargo.toml --bin benchmark
+//! `./benchmark` at the top of the repository makes the engine's library and runs this.
 
 use engine::boundary::Engine;
 use oracle::index::{Settings, MASKED, PLAIN, RING};
