@@ -9,7 +9,7 @@ ghost use lib.ListN.{length, getD, take, drop};
 ghost use Rattle.lemmas.specs.Bytes.{bytesOf, numberFrom};
 ghost use Rattle.index.specs.Checks.{firstMet, unless};
 ghost use Rattle.index.specs.Settings.{settingsRefusal};
-ghost use Rattle.rows.specs.Rows.{rows as allRows, larger, Ascends};
+ghost use Rattle.rows.specs.Rows.{rows as allRows, larger, Ascends, rankOf};
 ghost use Rattle.table.specs.Writing.{anyFrom};
 ghost use Rattle.packed.specs.Writer.{sort4, sortBuckets, codeOf, bucketBits, streamOf, packedLength, packedOf, writePacked};
 ghost use Rattle.packed.specs.Reader.{bucketFrom, descends, codeChecks, filledCount, unpack, readOut, readPacked};
@@ -68,13 +68,28 @@ fn above(x: u64, n: u32, low: u64) -> u64
     (x << n) + low
 }
 
+// The row of an ascending quadruple of nibbles, by counting from the end: the rows whose first nibble is
+// larger, those that have the same first and a larger second, and so on.
+fn row_from(counts: &[u16; 48], a: u64, b: u64, c: u64, d: u64) -> u64
+    requires { ⌜ (now counts ≡ larger) × (a < 16) × (b < 16) × (c < 16) × (d < 16) ⌝ }
+    ensures { λ r. ⌜ r ≡ rankOf a b c d ⌝ }
+{
+    let i = a as usize;
+    let j = (b + 16) as usize;
+    let k = (c + 32) as usize;
+    let first = counts[i] as u64;
+    let second = counts[j] as u64;
+    let third = counts[k] as u64;
+    3860 + d - first - second - third
+}
+
 // A sorted bucket as a number: its row, and above that the four low parts.
 fn code_of(counts: &[u16; 48], w: u32, a: u64, b: u64, c: u64, d: u64) -> u64
     requires { ⌜ (now counts ≡ larger) × (4 ≤ w) × (w ≤ 16) × Ascends a b c d × (d < 2 ^ w) ⌝ }
     ensures { λ r. ⌜ r ≡ codeOf w a b c d ⌝ }
 {
     let n = w - 4;
-    let row = rows::row_from(counts, a >> n, b >> n, c >> n, d >> n);
+    let row = row_from(counts, a >> n, b >> n, c >> n, d >> n);
     let mask = (1u64 << n) - 1;
     let two = above(d & mask, n, c & mask);
     let three = above(two, n, b & mask);

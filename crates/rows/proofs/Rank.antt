@@ -86,12 +86,3 @@ placed l a b c e ha hb hc =
 pub rank-small : (a b c d : ℕ) → rankOf a b c d ≤ 3875
 unfolding rankOf
 rank-small a b c d = omega arith
-
-pub rank-again : (a b c d : ℕ) → rankOf (a % 16) (b % 16) (c % 16) (d % 16) ≡ rankOf a b c d
-unfolding rankOf
-rank-again a b c d =
-    let ea : a % 16 % 16 ≡ a % 16 = omega arith in
-    let eb : b % 16 % 16 ≡ b % 16 = omega arith in
-    let ec : c % 16 % 16 ≡ c % 16 = omega arith in
-    let ed : d % 16 % 16 ≡ d % 16 = omega arith in
-    rw (ea, eb, ec, ed) refl

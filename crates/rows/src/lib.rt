@@ -1,8 +1,7 @@
 // The rows of the packed form: every ascending quadruple of nibbles in dictionary order, as a constant
-// table, and the row of a quadruple.
+// table, and the counts by which the row of a quadruple is found.
 ghost use mathlib.Core.Path.{_≡_};
-ghost use Rattle.rows.specs.Rows.{rows, larger, rankOf};
-ghost use Prim.Native.Nat.{_<_};
+ghost use Rattle.rows.specs.Rows.{rows, larger};
 
 // The table. A constant array is copied where it is used, so that a caller with many rows to look up
 // takes it once and lends it.
@@ -17,36 +16,6 @@ pub fn counts() -> [u16; 48]
     ensures { λ r. ⌜ r ≡ larger ⌝ }
 {
     LARGER
-}
-
-// The row of an ascending quadruple of nibbles, by counting from the end: the rows whose first nibble is
-// larger, those that have the same first and a larger second, and so on.
-pub fn row_from(counts: &[u16; 48], a: u64, b: u64, c: u64, d: u64) -> u64
-    requires { ⌜ (now counts ≡ larger) × (a < 16) × (b < 16) × (c < 16) × (d < 16) ⌝ }
-    ensures { λ r. ⌜ r ≡ rankOf a b c d ⌝ }
-{
-    let i = a as usize;
-    let j = (b + 16) as usize;
-    let k = (c + 32) as usize;
-    let first = counts[i] as u64;
-    let second = counts[j] as u64;
-    let third = counts[k] as u64;
-    3860 + d - first - second - third
-}
-
-// The same with the counts taken here, for any four numbers.
-pub fn row_of(a: u16, b: u16, c: u16, d: u16) -> u16
-    ensures { λ r. ⌜ r ≡ rankOf a b c d ⌝ }
-{
-    let all = counts();
-    let row = row_from(
-        &all,
-        (a % 16) as u64,
-        (b % 16) as u64,
-        (c % 16) as u64,
-        (d % 16) as u64,
-    );
-    row as u16
 }
 
 // How many rows have a first nibble above the index; then how many rows with one first nibble have a

@@ -1,9 +1,9 @@
 use native.Mathlib.Omega.{arith}
 use Rattle.rows.proofs.Rank.{Placed, placed}
 use Rattle.rows.specs.Rows.{rankOf}
 use borrow.Author.Needs.{needs}
-use Rattle.rows.proofs.row_from.Statement.{statement}
-use Rattle.rows.proofs.row_from.Tie as tie
+use Rattle.packed.proofs.row_from.Statement.{statement}
+use Rattle.packed.proofs.row_from.Tie as tie
 
 at : (c : tie.Start) → Placed (c .args .counts .now) (c .args .a) (c .args .b) (c .args .c)
 at c = placed (c .args .counts .now) (c .args .a) (c .args .b) (c .args .c) (c .pre .0) (c .pre .1) (c .pre .2) (c .pre .3)
