@@ -1,16 +1,15 @@
 -- The header: what the writer makes of good settings is read back, and what is read is what the writer makes.
 -- Assumes nothing.
 use mathlib.Core.Path.{_≡_, refl, sym, ap, _∙_, subst}
-use mathlib.Core.Logic.{_≢_}
 use mathlib.Core.Bool.{Bool, true, false, cond, not, _||_, _&&_}
 use mathlib.Core.Option.{none}
 use mathlib.Core.List.{List, [], _∷_, _++_, append-assoc}
-use Prim.Native.Nat.{ℕ, zero, suc, _+_, _-_, _≤_, _<_}
+use Prim.Native.Nat.{ℕ, _+_, _-_, _<_}
 use native.Mathlib.Omega.{arith}
-use borrow.Author.Tests.{eq-eqb, eqb-true, eqb-false, ltb-false, leb-false, lt-leb, not-false}
-use lib.Dec.{eqb, leb, ltb}
-use Rattle.lemmas.proofs.Bools.{or-false-left, or-false-right, cond-none}
-use Rattle.index.specs.Settings.{byRule, powerOfTwo, odd, settingsChecks, settingsRefusal}
+use borrow.Author.Tests.{eq-eqb, eqb-true, eqb-false, leb-false, lt-leb, not-false}
+use lib.Dec.{eqb, leb}
+use Rattle.lemmas.proofs.Bools.{or-false-left, or-false-right}
+use Rattle.index.specs.Settings.{settingsRefusal}
 use Rattle.index.specs.declared.Settings.{Settings}
 use Rattle.index.proofs.Good.{good}
 use Rattle.lemmas.specs.Bytes.{AllBytes}
@@ -23,18 +22,7 @@ use Rattle.holdfile.proofs.Parses.{onward, split, same-next, not-refuse
 -- ── written, then read ──
 -- under the rules without a mask the mask is 0
 pub no-mask : (s : Settings) → settingsRefusal s ≡ none → hasMask s ≡ false → s .mask ≡ 0
-unfolding settingsRefusal settingsChecks
-no-mask s e h =
-    let c1 = cond-none (ltb 2 (s .rule)) 1 _ e in
-    let c2 = cond-none (ltb (s .width) 4 || ltb 16 (s .width)) 2 _ (c1 .1) in
-    let c3 = cond-none (eqb (s .buckets) 0 || ltb 65536 (s .buckets) || byRule (s .rule) (not (powerOfTwo (s .buckets))) (odd (s .buckets)) (not (powerOfTwo (s .buckets)))) 3 _ (c2 .1) in
-    let c4 = cond-none (byRule (s .rule) (not (eqb (s .mask) 0)) (not (eqb (s .mask) 0)) (leb (s .buckets) (s .mask))) 4 none (c3 .1) in
-    go (s .rule) (ltb-false 2 (s .rule) (c1 .0)) (eqb-false (s .rule) 2 h) (c4 .0)
-  where
-    go : (r : ℕ) → r ≤ 2 → r ≢ 2 → byRule r (not (eqb (s .mask) 0)) (not (eqb (s .mask) 0)) (leb (s .buckets) (s .mask)) ≡ false → s .mask ≡ 0
-    go zero l n f = eqb-true (s .mask) 0 (not-false (eqb (s .mask) 0) f)
-    go (suc zero) l n f = eqb-true (s .mask) 0 (not-false (eqb (s .mask) 0) f)
-    go (suc (suc r)) l n f = absurd (n (omega arith))
+no-mask s e h = good s e .no-mask (eqb-false (s .rule) 2 h)
 
 -- a bit that stands exactly if the value is not the default fits
 never-both : (t : Bool) → (not t && t) ≡ false

@@ -13,7 +13,7 @@ use lib.ListN.{length}
 use Rattle.index.specs.Checks.{firstMet, numberOf}
 use Rattle.index.specs.Settings.{settingsChecks, settingsRefusal}
 use Rattle.index.specs.declared.Settings.{Settings}
-use Rattle.index.proofs.Refusals.{first-none, first-some, settings-none, number-some}
+use Rattle.index.proofs.Refusals.{first-none, first-some, settings-none, number-some, checks-refuse, checks-pass, checks-passed}
 use Rattle.table.specs.Calls.{tableChecks, clearRefusal}
 use Rattle.table.specs.Writing.{anyFrom, wideChecks, roomChecks, writeRefusal}
 use Rattle.holdfile.specs.Writer.{fileOf}
@@ -21,16 +21,15 @@ use Rattle.holdfile.specs.Writer.{fileOf}
 -- ── settings and table ──
 module _ (s : Settings) (c : List ℕ) where
   pub both-pass : settingsRefusal s ≡ none → length c ≡ 4 * s .buckets → firstMet (settingsChecks s ++ tableChecks s c) ≡ none
-  unfolding settingsRefusal tableChecks
-  both-pass e l = first-none (settingsChecks s) (tableChecks s c) e ∙ rw (eq-eqb (length c) (4 * s .buckets) l) refl
+  unfolding tableChecks
+  both-pass e l = checks-pass s (tableChecks s c) e ∙ rw (eq-eqb (length c) (4 * s .buckets) l) refl
 
   pub five : settingsRefusal s ≡ none → length c ≢ 4 * s .buckets → firstMet (settingsChecks s ++ tableChecks s c) ≡ some 5
-  unfolding settingsRefusal tableChecks
-  five e l = first-none (settingsChecks s) (tableChecks s c) e ∙ rw (ne-eqb (length c) (4 * s .buckets) l) refl
+  unfolding tableChecks
+  five e l = checks-pass s (tableChecks s c) e ∙ rw (ne-eqb (length c) (4 * s .buckets) l) refl
 
   pub by-settings : (n : ℕ) → n ≡ numberOf (settingsRefusal s) → n ≢ 0 → firstMet (settingsChecks s ++ tableChecks s c) ≡ some n
-  unfolding settingsRefusal
-  by-settings n e h = first-some (settingsChecks s) (tableChecks s c) n (number-some (firstMet (settingsChecks s)) (λ z. h (e ∙ z)) ∙ ap some (sym e))
+  by-settings n e h = checks-refuse s (tableChecks s c) n e h
 
   module _ (n : ℕ) (e : n ≡ numberOf (settingsRefusal s)) where
     pub number-by-settings : n ≢ 0 → n ≡ numberOf (clearRefusal s c)
@@ -47,12 +46,8 @@ module _ (s : Settings) (c : List ℕ) where
 
   -- 0 is no row's number, so that both have passed
   pub clear-settings : numberOf (clearRefusal s c) ≡ 0 → settingsRefusal s ≡ none
-  unfolding clearRefusal settingsRefusal
-  clear-settings e = go (firstMet (settingsChecks s)) refl
-    where
-      go : (o : Option ℕ) → firstMet (settingsChecks s) ≡ o → firstMet (settingsChecks s) ≡ none
-      go none f = f
-      go (some n) f = settings-none s (ap numberOf f ∙ sym (ap numberOf (first-some (settingsChecks s) (tableChecks s c) n f)) ∙ e)
+  unfolding clearRefusal
+  clear-settings e = checks-passed s (tableChecks s c) e
 
   pub clear-long : numberOf (clearRefusal s c) ≡ 0 → length c ≡ 4 * s .buckets
   unfolding clearRefusal

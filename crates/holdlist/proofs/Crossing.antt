@@ -8,7 +8,6 @@ use Prim.Native.Nat.{ℕ, _<_, _^_}
 use native.Mathlib.Omega.{arith}
 use lib.IntN.{ℤ, pos}
 use lib.Signed.{mag}
-use lib.Dec.{eqb}
 use lib.ListN.{take}
 use mir.Syntax.{w64}
 use mir.Val.{toZ, ofZ}
@@ -16,9 +15,10 @@ use mir.Facts.{toZ-ofZ}
 use borrow.Author.Tests.{eq-eqb, ne-eqb}
 use Rattle.index.specs.Checks.{numberOf, firstMet, Answer, refused, given, unless}
 use Rattle.index.specs.Settings.{settingsChecks, settingsRefusal}
-use Rattle.index.specs.Hash.{fingerprint, home, tagChecks}
-use Rattle.index.specs.Answers.{Entry, entryOf, candidatesAre, listed, Lists}
+use Rattle.index.specs.Hash.{home, tagChecks}
+use Rattle.index.specs.Answers.{Entry, entryOf, Lists}
 use Rattle.index.specs.declared.Settings.{Settings}
+use Rattle.index.proofs.Refusals.{entry-answer}
 use Rattle.index.specs.declared.CandidateList.{CandidateList}
 use Rattle.table.specs.Calls.{Reply, Result, result, viewRefusal, viewNumber}
 use Rattle.holdlist.specs.Numbers.{minus, signed, signedReply}
@@ -51,12 +51,12 @@ part-unless f none e = refl
 part-unless f (some n) e = refl
 
 pub fingerprint-crosses : (s : Settings) (tag : List ℕ) {a : Answer Entry} → a ≡ entryOf s tag → signed (part (λ e. e .print) a) ≡ signed (fingerprintAnswer s tag)
-unfolding entryOf fingerprintAnswer
-fingerprint-crosses s tag q = ap (λ (a : Answer Entry). signed (part (λ e. e .print) a)) q ∙ ap signed (part-unless (λ e. e .print) (firstMet (settingsChecks s ++ tagChecks tag)) _)
+unfolding fingerprintAnswer
+fingerprint-crosses s tag q = ap (λ (a : Answer Entry). signed (part (λ e. e .print) a)) (q ∙ entry-answer s tag) ∙ ap signed (part-unless (λ e. e .print) (firstMet (settingsChecks s ++ tagChecks tag)) _)
 
 pub home-crosses : (s : Settings) (tag : List ℕ) {a : Answer Entry} → a ≡ entryOf s tag → signed (part (λ e. e .home) a) ≡ signed (homeAnswer s tag)
-unfolding entryOf homeAnswer
-home-crosses s tag q = ap (λ (a : Answer Entry). signed (part (λ e. e .home) a)) q ∙ ap signed (part-unless (λ e. e .home) (firstMet (settingsChecks s ++ tagChecks tag)) _)
+unfolding homeAnswer
+home-crosses s tag q = ap (λ (a : Answer Entry). signed (part (λ e. e .home) a)) (q ∙ entry-answer s tag) ∙ ap signed (part-unless (λ e. e .home) (firstMet (settingsChecks s ++ tagChecks tag)) _)
 
 -- a list of candidates
 pub list-refused : (l : CandidateList) {a : Answer (List ℕ)} → Lists l a → (l .refusal ≡ 0 → ⊥) → a ≡ refused (l .refusal)

@@ -1,20 +1,19 @@
 -- What passing the settings' checks tells.
 -- Assumes nothing.
 use mathlib.Core.Path.{_≡_, refl, sym, subst, _∙_, ap}
-use mathlib.Core.Logic.{_⊎_, inl, inr, _≢_}
-use mathlib.Core.Bool.{Bool, true, false, cond, not, _||_}
-use mathlib.Core.Option.{Option, none, some}
-use Prim.Native.Nat.{ℕ, zero, suc, _+_, _*_, _-_, _/_, _%_, _^_, _≤_, _<_}
+use mathlib.Core.Logic.{_≢_}
+use mathlib.Core.Bool.{Bool, true, false, not, _||_}
+use mathlib.Core.Option.{none}
+use Prim.Native.Nat.{ℕ, zero, suc, _-_, _/_, _%_, _^_, _≤_, _<_}
 use native.Mathlib.Nat.{pos-of-ne-zero, mod-lt}
 use native.Mathlib.Decide.{decLe, ℕ-discrete}
 use native.Mathlib.Omega.{arith}
-use borrow.Author.Tests.{ltb-false, leb-false, eqb-true, eqb-false, not-false, eq-eqb}
+use borrow.Author.Tests.{ltb-false, leb-false, eqb-true, eqb-false, not-false}
 use lib.Bits.{bitAnd, and-mask}
 use lib.Dec.{eqb, leb, ltb}
-use lib.Pow.{pow-pos, pow-mono}
+use lib.Pow.{pow-mono}
 use Rattle.lemmas.proofs.Bools.{or-false-left, or-false-right, cond-none}
 use Rattle.lemmas.proofs.Powers.{power-of-and, and-of-power}
-use Rattle.index.specs.Checks.{Check, firstMet}
 use Rattle.index.specs.Settings.{byRule, powerBelow, powerOfTwo, odd, settingsChecks, settingsRefusal, half, modulus}
 use Rattle.index.specs.declared.Settings.{Settings}
 
@@ -70,6 +69,7 @@ pub record Good (s : Settings) : Type 0 where
   pub power : s .rule ≢ 1 → (k : ℕ) × (s .buckets ≡ 2 ^ k)
   pub even : s .rule ≡ 1 → s .buckets % 2 ≡ 0
   pub mask : s .rule ≢ 0 → s .rule ≢ 1 → s .mask < s .buckets
+  pub no-mask : s .rule ≢ 2 → s .mask ≡ 0
 
 pub by-masked : {A : Type 0} (r : ℕ) (x y z : A) → r ≢ 0 → r ≢ 1 → byRule r x y z ≡ z
 by-masked zero x y z n m = absurd (n refl)
@@ -113,6 +113,9 @@ even-of-good r m e h =
 mask-of-good : (r m k : ℕ) → byRule r (not (eqb k 0)) (not (eqb k 0)) (leb m k) ≡ false → r ≢ 0 → r ≢ 1 → k < m
 mask-of-good r m k e n o = leb-false m k (sym (by-masked r (not (eqb k 0)) (not (eqb k 0)) (leb m k) n o) ∙ e)
 
+mask-of-none : (r m k : ℕ) → byRule r (not (eqb k 0)) (not (eqb k 0)) (leb m k) ≡ false → r ≤ 2 → r ≢ 2 → k ≡ 0
+mask-of-none r m k e l n = eqb-true k 0 (not-false (eqb k 0) (sym (by-pair r (not (eqb k 0)) (leb m k) (omega arith)) ∙ e))
+
 pub good : (s : Settings) → settingsRefusal s ≡ none → Good s
 unfolding settingsRefusal settingsChecks
 good s e =
@@ -132,6 +135,7 @@ good s e =
       power = power-of-good (s .rule) m shape;
       even = even-of-good (s .rule) m shape;
       mask = mask-of-good (s .rule) m (s .mask) (c4 .0);
+      no-mask = mask-of-none (s .rule) m (s .mask) (c4 .0) (ltb-false 2 (s .rule) (c1 .0));
     }
 
 -- ── what hashes are reduced by ──

@@ -1,6 +1,6 @@
 -- Refusals: the first condition that is met in a list of checks, and by which tests the code finds it.
 -- Assumes nothing.
-use mathlib.Core.Path.{_≡_, refl, sym, ap, _∙_, subst}
+use mathlib.Core.Path.{_≡_, refl, sym, ap, _∙_}
 use mathlib.Core.Logic.{_≢_}
 use mathlib.Core.Bool.{Bool, true, false, cond, not, _||_}
 use mathlib.Core.Option.{Option, none, some}
@@ -10,10 +10,11 @@ use native.Mathlib.Omega.{arith}
 use borrow.Author.Tests.{lt-ltb, le-ltb, le-leb, lt-leb, eq-eqb, ne-eqb}
 use lib.Dec.{eqb, leb, ltb}
 use lib.ListN.{length}
-use Rattle.index.specs.Checks.{Check, check, firstMet, numberOf, Answer, refused, given, unless}
+use Rattle.index.specs.Checks.{Check, check, firstMet, numberOf, refused, given, unless}
 use Rattle.index.specs.Settings.{byRule, powerOfTwo, odd, settingsChecks, settingsRefusal}
-use Rattle.index.specs.Hash.{tagChecks}
-use Rattle.index.specs.Candidates.{bucketChecks}
+use Rattle.index.specs.Hash.{fingerprint, home, tagChecks}
+use Rattle.index.specs.Answers.{entryOf, candidatesAnswer}
+use Rattle.index.specs.Candidates.{candidates, bucketChecks}
 use Rattle.index.specs.declared.Settings.{Settings}
 
 -- ── lists of checks ──
@@ -73,6 +74,30 @@ pub number-some : (o : Option ℕ) → numberOf o ≢ 0 → o ≡ some (numberOf
 number-some none h = absurd (h refl)
 number-some (some n) h = refl
 
+-- ── for the layers above: the settings' checks ahead of others ──
+module _ (s : Settings) (more : List Check) where
+  pub checks-refuse : (n : ℕ) → n ≡ numberOf (settingsRefusal s) → n ≢ 0 → firstMet (settingsChecks s ++ more) ≡ some n
+  unfolding settingsRefusal
+  checks-refuse n e h = first-some (settingsChecks s) more n (number-some (firstMet (settingsChecks s)) (λ z. h (e ∙ z)) ∙ ap some (sym e))
+
+  pub checks-pass : settingsRefusal s ≡ none → firstMet (settingsChecks s ++ more) ≡ firstMet more
+  unfolding settingsRefusal
+  checks-pass e = first-none (settingsChecks s) more e
+
+  -- 0 is no row's number, so that the settings have passed
+  pub checks-passed : numberOf (firstMet (settingsChecks s ++ more)) ≡ 0 → settingsRefusal s ≡ none
+  unfolding settingsRefusal
+  checks-passed z = go (firstMet (settingsChecks s)) refl
+    where
+      go : (o : Option ℕ) → firstMet (settingsChecks s) ≡ o → firstMet (settingsChecks s) ≡ none
+      go none e = e
+      go (some k) e = unfold settingsRefusal in settings-none s (ap numberOf e ∙ sym (ap numberOf (first-some (settingsChecks s) more k e)) ∙ z)
+
+-- what the calls of this layer answer
+pub entry-answer : (s : Settings) (tag : List ℕ) → entryOf s tag ≡ unless (firstMet (settingsChecks s ++ tagChecks tag)) (record { print = fingerprint s tag; home = home s tag })
+unfolding entryOf
+entry-answer s tag = refl
+
 module _ {A : Type 0} (s : Settings) (more : List Check) (a : A) where
   -- the settings refuse the call
   pub by-settings : (n : ℕ) → n ≡ numberOf (settingsRefusal s) → n ≢ 0 → refused n ≡ unless (firstMet (settingsChecks s ++ more)) a
@@ -114,6 +139,11 @@ bucket-out s b h = ap (λ (t : Bool). cond {A = Option ℕ} t (some 8) none) (le
 pub bucket-in : (s : Settings) (b : ℕ) → b < s .buckets → firstMet (bucketChecks s b) ≡ none
 unfolding bucketChecks
 bucket-in s b h = ap (λ (t : Bool). cond {A = Option ℕ} t (some 8) none) (lt-leb (s .buckets) b h)
+
+-- the candidates of a bucket that there is
+pub candidates-given : (s : Settings) (p b : ℕ) → settingsRefusal s ≡ none → b < s .buckets → candidatesAnswer s p b ≡ given (candidates s p b)
+unfolding candidatesAnswer
+candidates-given s p b e h = ap (λ (o : Option ℕ). unless o (candidates s p b)) (checks-pass s (bucketChecks s b) e ∙ bucket-in s b h)
 
 -- ── the tests of the settings, in the order of the code ──
 or-left : (a b : Bool) → a ≡ true → (a || b) ≡ true

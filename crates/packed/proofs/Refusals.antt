@@ -14,7 +14,7 @@ use Rattle.lemmas.proofs.Bools.{cond-none}
 use Rattle.index.specs.Checks.{Check, check, firstMet, numberOf}
 use Rattle.index.specs.Settings.{settingsChecks, settingsRefusal}
 use Rattle.index.specs.declared.Settings.{Settings}
-use Rattle.index.proofs.Refusals.{first-none, first-some, number-some, settings-none}
+use Rattle.index.proofs.Refusals.{first-none, first-some, settings-none, checks-refuse, checks-pass, checks-passed}
 use Rattle.table.specs.Calls.{tableChecks}
 use Rattle.table.specs.Writing.{anyFrom, wideChecks, roomChecks, writeRefusal}
 use Rattle.packed.specs.Writer.{packedLength}
@@ -36,22 +36,21 @@ module _ (s : Settings) (c : List ℕ) where
   place = settingsChecks s ++ tableChecks s c
 
   by-settings : (n : ℕ) → n ≡ numberOf (settingsRefusal s) → n ≢ 0 → firstMet place ≡ some n
-  unfolding settingsRefusal
-  by-settings n e h = first-some (settingsChecks s) (tableChecks s c) n (number-some (firstMet (settingsChecks s)) (λ z. h (e ∙ z)) ∙ ap some (sym e))
+  by-settings n e h = checks-refuse s (tableChecks s c) n e h
 
   by-table : settingsRefusal s ≡ none → length c ≢ 4 * s .buckets → firstMet place ≡ some 5
-  unfolding settingsRefusal tableChecks
-  by-table e h = first-none (settingsChecks s) (tableChecks s c) e ∙ ap (λ (b : Bool). cond {A = Option ℕ} (not b) (some 5) none) (ne-eqb (length c) (4 * s .buckets) h)
+  unfolding tableChecks
+  by-table e h = checks-pass s (tableChecks s c) e ∙ ap (λ (b : Bool). cond {A = Option ℕ} (not b) (some 5) none) (ne-eqb (length c) (4 * s .buckets) h)
 
   by-neither : settingsRefusal s ≡ none → length c ≡ 4 * s .buckets → firstMet place ≡ none
-  unfolding settingsRefusal tableChecks
-  by-neither e h = first-none (settingsChecks s) (tableChecks s c) e ∙ ap (λ (b : Bool). cond {A = Option ℕ} (not b) (some 5) none) (eq-eqb (length c) (4 * s .buckets) h)
+  unfolding tableChecks
+  by-neither e h = checks-pass s (tableChecks s c) e ∙ ap (λ (b : Bool). cond {A = Option ℕ} (not b) (some 5) none) (eq-eqb (length c) (4 * s .buckets) h)
 
   place-passed : firstMet place ≡ none → (settingsRefusal s ≡ none) × (length c ≡ 4 * s .buckets)
-  unfolding settingsRefusal tableChecks
+  unfolding tableChecks
   place-passed e =
       let p = parts-none (settingsChecks s) (tableChecks s c) e in
-      (p .0, eqb-true (length c) (4 * s .buckets) (not-false (eqb (length c) (4 * s .buckets)) (cond-none (not (eqb (length c) (4 * s .buckets))) 5 none (p .1) .0)))
+      (checks-passed s (tableChecks s c) (ap numberOf e), eqb-true (length c) (4 * s .buckets) (not-false (eqb (length c) (4 * s .buckets)) (cond-none (not (eqb (length c) (4 * s .buckets))) 5 none (p .1) .0)))
 
 -- the settings pass
 pub settings-pass : (s : Settings) (n : ℕ) → n ≡ numberOf (settingsRefusal s) → n ≡ 0 → settingsRefusal s ≡ none

@@ -15,6 +15,7 @@ use Rattle.index.specs.Settings.{settingsChecks, settingsRefusal}
 use Rattle.index.specs.Candidates.{Class, classOf}
 use Rattle.index.specs.Laws.{Laws}
 use Rattle.index.specs.declared.Settings.{Settings}
+use Rattle.index.proofs.Refusals.{checks-pass}
 use Rattle.index.proofs.Laws.{laws}
 use Rattle.table.specs.Cells.{cell}
 use Rattle.table.specs.Calls.{Reply, refused, cleared, held, clear, released, absent, accepted, result, guarded, tableChecks, fresh, clearRefusal, clearTable}
@@ -73,9 +74,9 @@ module _ (s : Settings) (L : Laws s) where
 
 -- clear leaves the fresh table
 clear-starts : (s : Settings) → settingsRefusal s ≡ none → (c : List ℕ) → length c ≡ 4 * s .buckets → clearTable s c ≡ result cleared (fresh s)
-unfolding clearTable clearRefusal settingsRefusal
+unfolding clearTable clearRefusal
 clear-starts s e c h =
-    ap (λ (o : Option ℕ). guarded o c (result cleared (fresh s))) (ap firstMet (sym (append-nil (settingsChecks s ++ tableChecks s c))) ∙ table-passes s c h (settingsChecks s) [] ∙ ap firstMet (append-nil (settingsChecks s)) ∙ e)
+    ap (λ (o : Option ℕ). guarded o c (result cleared (fresh s))) (ap firstMet (sym (append-nil (settingsChecks s ++ tableChecks s c))) ∙ table-passes s c h (settingsChecks s) [] ∙ checks-pass s [] e)
 
 -- from the laws of the index layer
 by-laws : (s : Settings) → Laws s → settingsRefusal s ≡ none → (l : List Call) → Demand3 s l

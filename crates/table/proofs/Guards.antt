@@ -19,7 +19,7 @@ use Rattle.index.specs.Candidates.{candidates, bucketChecks}
 use Rattle.index.specs.Answers.{Entry, entryOf, listed, candidatesAnswer, Lists}
 use Rattle.index.specs.declared.Settings.{Settings}
 use Rattle.index.specs.declared.CandidateList.{CandidateList}
-use Rattle.index.proofs.Refusals.{first-none, first-some, settings-none, number-some, bucket-out, bucket-in}
+use Rattle.index.proofs.Refusals.{first-none, first-some, settings-none, number-some, checks-refuse, checks-pass, checks-passed, entry-answer, candidates-given, bucket-out, bucket-in}
 use Rattle.index.proofs.Laws.{laws}
 use Rattle.table.specs.Cells.{bucketOf, scan, inFirst}
 use Rattle.table.specs.Calls.{Result, result, refused as refusedBy, cleared, guarded, tableChecks, fresh, clearRefusal, clearTable, tagRefusal, foundIn, toldHeld, lookup, emptied, release, lookupIn, releaseIn, viewRefusal, viewed, viewNumber, partOf}
@@ -29,14 +29,12 @@ use Rattle.table.proofs.Refusals.{lookup-refusal}
 -- ── the check of settings and table ──
 module _ (s : Settings) (c : List ℕ) where
   pub by-settings : (n : ℕ) → n ≡ numberOf (settingsRefusal s) → n ≢ 0 → n ≡ numberOf (clearRefusal s c)
-  unfolding clearRefusal settingsRefusal
-  by-settings n e h =
-      let f : firstMet (settingsChecks s) ≡ some n = number-some (firstMet (settingsChecks s)) (λ z. h (e ∙ z)) ∙ ap some (sym e) in
-      sym (ap numberOf (first-some (settingsChecks s) (tableChecks s c) n f))
+  unfolding clearRefusal
+  by-settings n e h = sym (ap numberOf (checks-refuse s (tableChecks s c) n e h))
 
   by-table : settingsRefusal s ≡ none → (b : Bool) → eqb (length c) (4 * s .buckets) ≡ b → clearRefusal s c ≡ cond (not b) (some 5) none
-  unfolding clearRefusal settingsRefusal tableChecks
-  by-table e b t = first-none (settingsChecks s) (tableChecks s c) e ∙ ap (λ (x : Bool). cond (not x) (some 5) none) t
+  unfolding clearRefusal tableChecks
+  by-table e b t = checks-pass s (tableChecks s c) e ∙ ap (λ (x : Bool). cond (not x) (some 5) none) t
 
   module _ (n : ℕ) (e : n ≡ numberOf (settingsRefusal s)) (h : n ≡ 0) where
     pub by-size : length c ≢ 4 * s .buckets → 5 ≡ numberOf (clearRefusal s c)
@@ -52,14 +50,8 @@ pub record Passed (s : Settings) (c : List ℕ) : Type 0 where
   pub none-met : clearRefusal s c ≡ none
 
 settings-pass : (s : Settings) (c : List ℕ) → numberOf (clearRefusal s c) ≡ 0 → settingsRefusal s ≡ none
-unfolding clearRefusal settingsRefusal
-settings-pass s c z = go (firstMet (settingsChecks s)) refl
-  where
-    go : (o : Option ℕ) → firstMet (settingsChecks s) ≡ o → firstMet (settingsChecks s) ≡ none
-    go none e = e
-    go (some k) e =
-        let f : firstMet (settingsChecks s ++ tableChecks s c) ≡ some k = first-some (settingsChecks s) (tableChecks s c) k e in
-        settings-none s (ap numberOf e ∙ sym (ap numberOf f) ∙ z)
+unfolding clearRefusal
+settings-pass s c z = checks-passed s (tableChecks s c) z
 
 module _ (s : Settings) (c : List ℕ) (n : ℕ) (e : n ≡ numberOf (clearRefusal s c)) where
   pub passed : n ≡ 0 → Passed s c
@@ -157,8 +149,7 @@ module _ (s : Settings) (c : List ℕ) (P : Passed s c) (t : List ℕ) where
   -- the index layer refuses the tag as the table does
   module _ (k : ℕ) (e : refused k ≡ entryOf s t) where
     pub tag-refused : tagRefusal s c t ≡ some k
-    unfolding entryOf
-    tag-refused = lookup-refusal s c (P .size) t ∙ unless-some (firstMet (settingsChecks s ++ tagChecks t)) _ k e
+    tag-refused = lookup-refusal s c (P .size) t ∙ unless-some (firstMet (settingsChecks s ++ tagChecks t)) _ k (e ∙ entry-answer s t)
 
     pub lookup-refused : result (refusedBy k) c ≡ lookup s c t
     unfolding lookup
@@ -170,8 +161,7 @@ module _ (s : Settings) (c : List ℕ) (P : Passed s c) (t : List ℕ) where
 
   module _ (p b : ℕ) (e : given (record { print = p; home = b }) ≡ entryOf s t) where
     entry : (firstMet (settingsChecks s ++ tagChecks t) ≡ none) × (_≡_ {A = Entry} (record { print = p; home = b }) (record { print = fingerprint s t; home = home s t }))
-    unfolding entryOf
-    entry = unless-none (firstMet (settingsChecks s ++ tagChecks t)) _ _ e
+    entry = unless-none (firstMet (settingsChecks s ++ tagChecks t)) _ _ (e ∙ entry-answer s t)
 
     pub tag-passes : tagRefusal s c t ≡ none
     tag-passes = lookup-refusal s c (P .size) t ∙ entry .0
@@ -188,8 +178,7 @@ module _ (s : Settings) (c : List ℕ) (P : Passed s c) (t : List ℕ) where
 -- the list that the index layer gives has the candidates, and their cells are in the table
 module _ (s : Settings) (c : List ℕ) (P : Passed s c) (p b : ℕ) (h : b < s .buckets) (l : CandidateList) (L : Lists l (candidatesAnswer s p b)) where
   answer : candidatesAnswer s p b ≡ given (candidates s p b)
-  unfolding candidatesAnswer settingsRefusal
-  answer = ap (λ (o : Option ℕ). unless o (candidates s p b)) (first-none (settingsChecks s) (bucketChecks s b) (P .good) ∙ bucket-in s b h)
+  answer = candidates-given s p b (P .good) h
 
   pub list-is : take (l .count) (l .buckets) ≡ candidates s p b
   list-is = go (eqb (l .refusal) 0) (L .says ∙ answer)
