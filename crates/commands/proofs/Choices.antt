@@ -6,37 +6,22 @@ use Prim.Native.Nat.{ℕ}
 use native.Mathlib.Omega.{arith}
 use borrow.Author.Tests.{eq-eqb, ne-eqb}
 use lib.ListN.{length, getD}
-use Rattle.commands.specs.Words.{word, afterWord}
-use Rattle.commands.specs.Commands.{withText, alone, named, commandIn}
+use Rattle.commands.specs.Words.{ifEmpty, word, afterWord}
+use Rattle.commands.specs.Commands.{named, commandIn}
 use Rattle.commands.specs.declared.Command.{Command}
 
-pub text-none : (c : Command) (l : List ℕ) → length l ≡ 0 → Command.Missing ≡ withText c l
-text-none c [] e = refl
-text-none c (b ∷ l) e = absurd (omega arith)
+pub empty : {A : Type 0} (l : List ℕ) (a b : A) → length l ≡ 0 → a ≡ ifEmpty l a b
+empty [] a b e = refl
+empty (x ∷ l) a b e = absurd (omega arith)
 
-pub text-some : (c : Command) (l : List ℕ) → (length l ≡ 0 → ⊥) → c ≡ withText c l
-text-some c [] e = absurd (e refl)
-text-some c (b ∷ l) e = refl
-
-pub alone-none : (c : Command) (l : List ℕ) → length l ≡ 0 → c ≡ alone c l
-alone-none c [] e = refl
-alone-none c (b ∷ l) e = absurd (omega arith)
-
-pub alone-some : (c : Command) (l : List ℕ) → (length l ≡ 0 → ⊥) → Command.Extra ≡ alone c l
-alone-some c [] e = absurd (e refl)
-alone-some c (b ∷ l) e = refl
-
-pub line-none : (l : List ℕ) → length l ≡ 0 → Command.Nothing ≡ commandIn l
-unfolding commandIn
-line-none [] e = refl
-line-none (b ∷ l) e = absurd (omega arith)
+pub full : {A : Type 0} (l : List ℕ) (a b : A) → (length l ≡ 0 → ⊥) → b ≡ ifEmpty l a b
+full [] a b e = absurd (e refl)
+full (x ∷ l) a b e = refl
 
 pub line-remark : (l : List ℕ) → (length l ≡ 0 → ⊥) → getD l 0 0 ≡ 35 → Command.Nothing ≡ commandIn l
 unfolding commandIn
-line-remark [] g e = absurd (g refl)
-line-remark (b ∷ l) g e = rw (eq-eqb b 35 e)
+line-remark l g e = rw (eq-eqb (getD l 0 0) 35 e) (full l _ _ g)
 
 pub line-named : (l : List ℕ) → (length l ≡ 0 → ⊥) → (getD l 0 0 ≡ 35 → ⊥) → named (word l) (afterWord l) ≡ commandIn l
 unfolding commandIn
-line-named [] g e = absurd (g refl)
-line-named (b ∷ l) g e = rw (ne-eqb b 35 e)
+line-named l g e = rw (ne-eqb (getD l 0 0) 35 e) (full l _ _ g)

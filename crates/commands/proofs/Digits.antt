@@ -1,55 +1,42 @@
 -- Tags as they are typed: digits pair by pair, the output byte by byte, and what the call leaves.
 -- Assumes nothing.
 use mathlib.Core.Path.{_≡_, refl, sym, ap, subst, _∙_}
-use mathlib.Core.Bool.{Bool, true, false, _&&_}
+use mathlib.Core.Bool.{Bool, true, false, _&&_, and-false, and-eq-true-iff}
 use mathlib.Core.List.{List, [], _∷_, _++_, append-assoc}
-use mathlib.Core.Logic.{_≢_}
+use mathlib.Core.Logic.{_≢_, inl, inr}
+use native.Mathlib.Nat.{pos-of-ne-zero}
 use mathlib.Core.Option.{Option, none, some}
 use Prim.Native.Nat.{ℕ, zero, suc, _+_, _*_, _-_, _/_, _≤_, _<_}
 use native.Mathlib.Numerals.{add-one}
 use native.Mathlib.Omega.{arith}
 use borrow.Author.Tests.{le-leb, lt-leb, leb-true, eq-eqb, ne-eqb}
-use lib.Dec.{eqb}
+use lib.Dec.{eqb, leb}
 use lib.ListN.{length, getD, take, drop, set, length-append, length-drop}
 use lib.Seq.{length-take-le, take-all, take-suc, drop-cons, set-at}
-use Rattle.index.specs.Checks.{firstMet}
+use Rattle.refusals.specs.Checks.{firstMet}
 use Rattle.index.specs.Hash.{tagChecks}
-use Rattle.index.proofs.Refusals.{tag-empty, tag-long, tag-good}
-use Rattle.commands.specs.Tags.{hexValue, hexDigit, also, hexBytes, hexPasses, hexPairs, hexMark, tagBytes, TagOut, checkedTag, tagOut, tagLength, Starts}
+use Rattle.index.specs.Settings.{defaultSettings}
+use Rattle.index.proofs.Checks.{check-laws}
+use Rattle.refusals.specs.Outcomes.{Answer, refused, given, unless, Done, done, Outcome, outcome, keeping}
+use Rattle.refusals.proofs.Cursor.{call-refused, call-goes-on}
+use Rattle.commands.specs.Tags.{hexValue, hexDigit, also, hexBytes, tagBytes, tagIs, tagOut, tagLength, Starts}
+use Rattle.commands.specs.Internal.{hexPasses, hexPairs, hexMark}
 use Rattle.commands.specs.declared.TagAnswer.{TagAnswer}
 
 -- ── the value of a digit ──
-module _ (b : ℕ) where
-  pub value-below : b < 48 → hexValue b ≡ 16
-  unfolding hexValue
-  value-below h = rw (lt-leb 48 b h, lt-leb 97 b (omega arith), lt-leb 65 b (omega arith)) refl
+-- whether a byte is in a range
+module _ (m n b : ℕ) where
+  pub in-range : m ≤ b → leb b n ≡ true → (leb m b && leb b n) ≡ true
+  in-range h e = rw (le-leb m b h, e)
 
-  pub value-decimal : 48 ≤ b → b ≤ 57 → hexValue b ≡ b - 48
-  unfolding hexValue
-  value-decimal h k = rw (le-leb 48 b h, le-leb b 57 k) refl
+  pub past-range : m ≤ b → leb b n ≡ false → (leb m b && leb b n) ≡ false
+  past-range h e = rw (le-leb m b h, e)
 
-  pub value-signs : 57 < b → b < 65 → hexValue b ≡ 16
-  unfolding hexValue
-  value-signs h k = rw (le-leb 48 b (omega arith), lt-leb b 57 h, lt-leb 97 b (omega arith), lt-leb 65 b k) refl
-
-  pub value-upper : 65 ≤ b → b ≤ 70 → hexValue b ≡ b - 55
-  unfolding hexValue
-  value-upper h k = rw (le-leb 48 b (omega arith), lt-leb b 57 (omega arith), lt-leb 97 b (omega arith), le-leb 65 b h, le-leb b 70 k) refl
-
-  pub value-between : 70 < b → b < 97 → hexValue b ≡ 16
-  unfolding hexValue
-  value-between h k = rw (le-leb 48 b (omega arith), lt-leb b 57 (omega arith), lt-leb 97 b k, le-leb 65 b (omega arith), lt-leb b 70 h) refl
-
-  pub value-lower : 97 ≤ b → b ≤ 102 → hexValue b ≡ b - 87
-  unfolding hexValue
-  value-lower h k = rw (le-leb 48 b (omega arith), lt-leb b 57 (omega arith), le-leb 97 b h, le-leb b 102 k) refl
-
-  pub value-above : 102 < b → hexValue b ≡ 16
-  unfolding hexValue
-  value-above h = rw (le-leb 48 b (omega arith), lt-leb b 57 (omega arith), le-leb 97 b (omega arith), lt-leb b 102 h, le-leb 65 b (omega arith), lt-leb b 70 (omega arith)) refl
+  pub below-range : b < m → (leb m b && leb b n) ≡ false
+  below-range h = rw (lt-leb m b h)
 
 -- ── digits that pass, and those that do not ──
-pub bytes-pass : (l : List ℕ) → hexPasses l ≡ true → hexBytes l ≡ some (hexPairs l)
+bytes-pass : (l : List ℕ) → hexPasses l ≡ true → hexBytes l ≡ some (hexPairs l)
 unfolding hexPasses hexBytes hexPairs
 bytes-pass [] e = refl
 bytes-pass (a ∷ []) e = cc
@@ -60,7 +47,7 @@ bytes-pass (a ∷ b ∷ l) e = go (hexDigit a && hexDigit b) (hexPasses l) e (by
     go true false e r = cc
     go false q e r = cc
 
-pub bytes-fail : (l : List ℕ) → hexPasses l ≡ false → hexBytes l ≡ none
+bytes-fail : (l : List ℕ) → hexPasses l ≡ false → hexBytes l ≡ none
 unfolding hexPasses hexBytes
 bytes-fail [] e = cc
 bytes-fail (a ∷ []) e = refl
@@ -88,11 +75,7 @@ module _ (l : List ℕ) (i : ℕ) where
 
   pub pair-second : 2 ≤ length l - i → 15 < hexValue (getD l (i + 1) 0) → hexPasses (drop i l) ≡ false
   unfolding hexPasses
-  pair-second h q = rw (pair-cons h, lt-leb (hexValue (getD l (i + 1) 0)) 15 q) (go (hexDigit (getD l i 0)) (hexPasses (drop (i + 2) l)))
-    where
-      go : (p r : Bool) → ((p && false) && r) ≡ false
-      go true r = refl
-      go false r = refl
+  pair-second h q = rw (pair-cons h, lt-leb (hexValue (getD l (i + 1) 0)) 15 q, and-false (hexDigit (getD l i 0)))
 
   pub pair-last : i ≤ length l → length l - i < 2 → hexPasses (drop i l) ≡ eqb i (length l)
   unfolding hexPasses
@@ -110,14 +93,6 @@ pairs-length [] = refl
 pairs-length (a ∷ []) = refl
 pairs-length (a ∷ b ∷ l) = omega (arith, pairs-length l)
 
-and-left : (p q : Bool) → (p && q) ≡ true → p ≡ true
-and-left true q e = refl
-and-left false q e = cc
-
-and-right : (p q : Bool) → (p && q) ≡ true → q ≡ true
-and-right true q e = e
-and-right false q e = cc
-
 abbrev pub PairAt : List ℕ → ℕ → Type 0
 PairAt l i = (hexValue (getD l (2 * i) 0) ≤ 15) × (hexValue (getD l (2 * i + 1) 0) ≤ 15) × (16 * hexValue (getD l (2 * i) 0) + hexValue (getD l (2 * i + 1) 0) ≡ getD (hexPairs l) i 0)
 
@@ -126,12 +101,12 @@ unfolding hexPasses hexPairs
 pair-at [] i e h = absurd (omega arith)
 pair-at (a ∷ []) i e h = absurd (omega arith)
 pair-at (a ∷ b ∷ l) zero e h =
-    let f = and-left (hexDigit a && hexDigit b) (hexPasses l) e in
-    (leb-true (hexValue a) 15 (and-left (hexDigit a) (hexDigit b) f), leb-true (hexValue b) 15 (and-right (hexDigit a) (hexDigit b) f), refl)
+    let f = and-eq-true-iff (hexDigit a) (hexDigit b) .0 (and-eq-true-iff (hexDigit a && hexDigit b) (hexPasses l) .0 e .0) in
+    (leb-true (hexValue a) 15 (f .0), leb-true (hexValue b) 15 (f .1), refl)
 pair-at (a ∷ b ∷ l) (suc i) e h =
     let x : 2 * suc i ≡ suc (suc (2 * i)) = omega arith in
     let y : 2 * suc i + 1 ≡ suc (suc (2 * i + 1)) = omega arith in
-    rw (y, x) (pair-at l i (and-right (hexDigit a && hexDigit b) (hexPasses l) e) (omega arith))
+    rw (y, x) (pair-at l i (and-eq-true-iff (hexDigit a && hexDigit b) (hexPasses l) .0 e .1) (omega arith))
 
 -- ── bytes to the start of the output ──
 module _ (t out : List ℕ) (i : ℕ) where
@@ -148,26 +123,26 @@ module _ (t out : List ℕ) (i : ℕ) where
   laid-all e = ap (λ (s : List ℕ). s ++ drop i out) (take-all i t (omega arith))
 
 -- ── what the call answers and leaves ──
-pub not-hex : (l out : List ℕ) → hexPasses l ≡ false → record { answer = TagAnswer.NotHex; output = out } ≡ tagOut (hexBytes l) out
+pub not-hex : (l out : List ℕ) → hexPasses l ≡ false → outcome (tagIs TagAnswer.NotHex) out ≡ tagOut (hexBytes l) out
 not-hex l out e = rw (bytes-fail l e) refl
 
 pub digits-out : (l out : List ℕ) → hexPasses l ≡ true → tagOut (some (hexPairs l)) out ≡ tagOut (hexBytes l) out
 digits-out l out e = rw (bytes-pass l e) refl
 
+abbrev tagged : List ℕ → List ℕ → Answer (Done (Option ℕ) (List ℕ))
+tagged t out = given (done (some (length t)) (t ++ drop (length t) out))
+
 module _ (t out : List ℕ) where
-  pub none-refused : length t ≡ 0 → record { answer = TagAnswer.Refused 7; output = out } ≡ tagOut (some t) out
-  none-refused h = rw (tag-empty t h) refl
+  pub none-refused : length t ≡ 0 → outcome (tagIs (TagAnswer.Refused 7)) out ≡ tagOut (some t) out
+  none-refused h = call-refused out (tagged t out) (check-laws defaultSettings .tag-refused t (inl h))
 
-  pub long-refused : 64 < length t → record { answer = TagAnswer.Refused 7; output = out } ≡ tagOut (some t) out
-  long-refused h = rw (tag-long t h) refl
+  pub long-refused : 64 < length t → outcome (tagIs (TagAnswer.Refused 7)) out ≡ tagOut (some t) out
+  long-refused h = call-refused out (tagged t out) (check-laws defaultSettings .tag-refused t (inr h))
 
-  pub is-given : (n : ℕ) (o : List ℕ) → length t ≢ 0 → length t ≤ 64 → n ≡ length t → o ≡ t ++ drop (length t) out → record { answer = TagAnswer.Is n; output = o } ≡ tagOut (some t) out
-  is-given n o h k e f = rw (tag-good t h k, e, f) refl
+  pub is-given : (n : ℕ) (o : List ℕ) → length t ≢ 0 → length t ≤ 64 → n ≡ length t → o ≡ t ++ drop (length t) out → outcome (tagIs (TagAnswer.Is n)) o ≡ tagOut (some t) out
+  is-given n o h k e f = rw (e, f) (call-goes-on out (tagged t out) (check-laws defaultSettings .tag-passes t (pos-of-ne-zero h) k))
 
 -- ── the mark ──
-pub past-mark : (t : List ℕ) → take (length t - 2) (drop 2 t) ≡ drop 2 t
-past-mark t = take-all (length t - 2) (drop 2 t) (omega (arith, length-drop 2 t))
-
 pub mark-bytes : (t : List ℕ) → hexMark t ≡ true → tagBytes t ≡ hexBytes (drop 2 t)
 unfolding hexMark tagBytes
 mark-bytes [] e = cc
@@ -208,13 +183,26 @@ mark-second (a ∷ b ∷ l) h e = rw (eq-eqb a 48 e) refl
 within : (n : ℕ) (l : List ℕ) → n ≤ length l → Starts n l
 within n l h = record { within = h; taken = sym (length-take-le n l h) }
 
-tag-starts : (o : Option (List ℕ)) (out : List ℕ) → Starts (tagLength (tagOut o out .answer)) (tagOut o out .output)
+-- the length that an answer tells
+abbrev lengthTold : Answer (Option ℕ) → ℕ
+lengthTold (given (some n)) = n
+lengthTold (given none) = 0
+lengthTold (refused n) = 0
+
+length-told : (r : TagAnswer) → lengthTold (tagIs r) ≡ tagLength r
+length-told (TagAnswer.Is n) = refl
+length-told TagAnswer.NotHex = refl
+length-told (TagAnswer.Refused n) = refl
+
+tag-starts : (o : Option (List ℕ)) (out : List ℕ) → Starts (lengthTold (tagOut o out .answer)) (tagOut o out .leaves)
 tag-starts none out = within 0 out (omega arith)
 tag-starts (some tag) out = go (firstMet (tagChecks tag))
   where
-    go : (c : Option ℕ) → Starts (tagLength (checkedTag c tag out .answer)) (checkedTag c tag out .output)
+    go : (c : Option ℕ) → let x = keeping out (unless c (tagged tag out)) in Starts (lengthTold (x .answer)) (x .leaves)
     go none = within (length tag) (tag ++ drop (length tag) out) (omega (arith, length-append tag (drop (length tag) out)))
     go (some n) = within 0 out (omega arith)
 
-pub starts : (r : TagAnswer) (l : List ℕ) (o : Option (List ℕ)) (out : List ℕ) → record { answer = r; output = l } ≡ tagOut o out → Starts (tagLength r) l
-starts r l o out e = subst (λ (t : TagOut). Starts (tagLength (t .answer)) (t .output)) (sym e) (tag-starts o out)
+pub starts : (r : TagAnswer) (l : List ℕ) (o : Option (List ℕ)) (out : List ℕ) → outcome (tagIs r) l ≡ tagOut o out → Starts (tagLength r) l
+starts r l o out e =
+    let s = subst (λ (x : Outcome (Option ℕ) (List ℕ)). Starts (lengthTold (x .answer)) (x .leaves)) (sym e) (tag-starts o out) in
+    subst (λ (n : ℕ). Starts n l) (length-told r) s

@@ -1,5 +1,6 @@
 -- The commands' proofs, by what they speak of.
-pub mod Turns
+pub mod Scanning
+pub mod Keywords
 pub mod Choices
 pub mod Digits
-pub mod Counting
+pub mod Shares

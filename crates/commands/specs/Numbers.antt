@@ -1,11 +1,11 @@
 -- Decimal numbers below 2 to the 32, as they are typed.
 -- Assumes nothing.
-use mathlib.Core.Bool.{Bool, true, false, cond, _&&_}
+use mathlib.Core.Bool.{Bool, cond, _&&_}
 use mathlib.Core.List.{List, [], _∷_}
 use mathlib.Core.Option.{Option, none, some}
 use Prim.Native.Nat.{ℕ, _+_, _*_, _-_, _^_}
 use lib.Dec.{leb, ltb}
-use Rattle.commands.specs.declared.Decimal.{Decimal}
+use Rattle.commands.specs.Words.{ifEmpty}
 
 abbrev pub digit : ℕ → Bool
 digit b = leb 48 b && leb b 57
@@ -17,9 +17,4 @@ valueFrom n (b ∷ l) = cond (digit b && ltb (10 * n + (b - 48)) (2 ^ 32)) (valu
 
 -- a number has at least one digit
 unfoldable pub valueOf : List ℕ → Option ℕ
-valueOf [] = none
-valueOf (b ∷ l) = valueFrom 0 (b ∷ l)
-
-abbrev pub numberIs : Decimal → Option ℕ
-numberIs (Decimal.Value n) = some n
-numberIs Decimal.None = none
+valueOf l = ifEmpty l none (valueFrom 0 l)

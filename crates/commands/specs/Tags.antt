@@ -7,7 +7,8 @@ use mathlib.Core.Option.{Option, none, some}
 use Prim.Native.Nat.{ℕ, _≤_, _+_, _*_, _-_}
 use lib.Dec.{eqb, leb}
 use lib.ListN.{length, take, drop}
-use Rattle.index.specs.Checks.{firstMet}
+use Rattle.refusals.specs.Checks.{firstMet}
+use Rattle.refusals.specs.Outcomes.{Answer, refused, given, unless, done, Outcome, keeping}
 use Rattle.index.specs.Hash.{tagChecks}
 use Rattle.commands.specs.declared.TagAnswer.{TagAnswer}
 
@@ -38,37 +39,16 @@ tagBytes [] = some []
 tagBytes (a ∷ []) = some (a ∷ [])
 tagBytes (a ∷ b ∷ l) = cond (eqb a 48 && eqb b 120) (hexBytes l) (some (a ∷ b ∷ l))
 
--- what the call answers, and the bytes that it leaves: the tag at their start where it passes the check of tags
-pub record TagOut : Type 0 where
-  pub answer : TagAnswer
-  pub output : List ℕ
+-- what the call says: the tag's length, or none for digits that are not hexadecimal
+abbrev pub tagIs : TagAnswer → Answer (Option ℕ)
+tagIs (TagAnswer.Is n) = given (some n)
+tagIs TagAnswer.NotHex = given none
+tagIs (TagAnswer.Refused n) = refused n
 
-abbrev pub checkedTag : Option ℕ → List ℕ → List ℕ → TagOut
-checkedTag none tag out = record { answer = TagAnswer.Is (length tag); output = tag ++ drop (length tag) out }
-checkedTag (some n) tag out = record { answer = TagAnswer.Refused n; output = out }
-
-abbrev pub tagOut : Option (List ℕ) → List ℕ → TagOut
-tagOut none out = record { answer = TagAnswer.NotHex; output = out }
-tagOut (some tag) out = checkedTag (firstMet (tagChecks tag)) tag out
-
--- ── for the parts of the code ──
--- whether digits stand for bytes
-unfoldable pub hexPasses : List ℕ → Bool
-hexPasses [] = true
-hexPasses (a ∷ []) = false
-hexPasses (a ∷ b ∷ l) = (hexDigit a && hexDigit b) && hexPasses l
-
--- the bytes that they stand for where they do
-unfoldable pub hexPairs : List ℕ → List ℕ
-hexPairs [] = []
-hexPairs (a ∷ []) = []
-hexPairs (a ∷ b ∷ l) = (16 * hexValue a + hexValue b) ∷ hexPairs l
-
--- whether text starts with 0x
-unfoldable pub hexMark : List ℕ → Bool
-hexMark [] = false
-hexMark (a ∷ []) = false
-hexMark (a ∷ b ∷ l) = eqb a 48 && eqb b 120
+-- a tag that passes the check of tags goes to the start of the bytes that are lent
+abbrev pub tagOut : Option (List ℕ) → List ℕ → Outcome (Option ℕ) (List ℕ)
+tagOut none out = keeping out (given (done none out))
+tagOut (some tag) out = keeping out (unless (firstMet (tagChecks tag)) (given (done (some (length tag)) (tag ++ drop (length tag) out))))
 
 -- ── for those who take the tag from the bytes ──
 abbrev pub tagLength : TagAnswer → ℕ

@@ -1,22 +1,7 @@
 // What the tool tells of its list.
 ghost use mathlib.Core.Path.{_≡_};
 ghost use Prim.Native.Nat.{max};
-ghost use Rattle.commands.specs.Told.{filledIn, permilleOf};
-
-// How many cells are filled.
-pub fn entries(table: &[u16]) -> usize
-    ensures { λ r. ⌜ r ≡ filledIn (now (table .entry)) ⌝ }
-{
-    let mut n = 0;
-    let mut i = 0;
-    while i < table.len() {
-        if table[i] != 0 {
-            n += 1;
-        }
-        i += 1;
-    }
-    n
-}
+ghost use Rattle.commands.specs.Figures.{permilleOf};
 
 // A part in thousandths of a whole.
 pub fn permille(part: u32, whole: u32) -> u32

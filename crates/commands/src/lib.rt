@@ -4,7 +4,6 @@ mod counts;
 mod tags;
 mod words;
 
-pub use counts::entries;
 pub use counts::longest;
 pub use counts::permille;
 pub use tags::tag;
@@ -47,4 +46,13 @@ pub enum TagAnswer {
 enum Decimal {
     Value(u32),
     None,
+}
+
+// What a name asks for: nothing that there is, a command with a text or with nothing after it, or one that takes numbers.
+enum Asks {
+    Unknown,
+    Text(Command),
+    Nothing(Command),
+    View,
+    Settings,
 }

@@ -5,30 +5,23 @@ ghost use mathlib.Core.List.{_++_};
 ghost use mathlib.Core.Option.{some};
 ghost use Prim.Native.Nat.{_≤_, _/_};
 ghost use lib.ListN.{length, drop};
-ghost use Rattle.commands.specs.Tags.{hexValue, hexBytes, hexPasses, hexPairs, hexMark, tagBytes, tagOut, tagLength, Starts};
+ghost use Rattle.refusals.specs.Outcomes.{outcome};
+ghost use Rattle.commands.specs.Tags.{hexValue, hexBytes, tagBytes, tagIs, tagOut, tagLength, Starts};
+ghost use Rattle.commands.specs.Internal.{hexPasses, hexPairs, hexMark};
 use super::TagAnswer;
 
 // The value of a hexadecimal digit, 16 for any other byte.
 fn hex_value(b: u8) -> u8
     ensures { λ r. ⌜ r ≡ hexValue b ⌝ }
 {
-    if b < b'0' {
-        return 16;
-    }
-    if b <= b'9' {
+    if b'0' <= b && b <= b'9' {
         return b - b'0';
     }
-    if b < b'A' {
-        return 16;
-    }
-    if b <= b'F' {
-        return b - b'A' + 10;
-    }
-    if b < b'a' {
-        return 16;
-    }
-    if b <= b'f' {
+    if b'a' <= b && b <= b'f' {
         return b - b'a' + 10;
+    }
+    if b'A' <= b && b <= b'F' {
+        return b - b'A' + 10;
     }
     16
 }
@@ -79,7 +72,7 @@ fn copy(text: &[u8], out: &mut [u8])
 
 // A tag in hexadecimal digits. Nothing is written before the digits and their number have passed.
 fn digits_tag(digits: &[u8], out: &mut [u8; 64]) -> TagAnswer
-    ensures { λ r. ⌜ record { answer = r; output = now (out .exit) } ≡ tagOut (hexBytes (now (digits .entry))) (now (out .entry)) ⌝ }
+    ensures { λ r. ⌜ outcome (tagIs r) (now (out .exit)) ≡ tagOut (hexBytes (now (digits .entry))) (now (out .entry)) ⌝ }
 {
     if !is_hex(digits) {
         return TagAnswer::NotHex;
@@ -97,7 +90,7 @@ fn digits_tag(digits: &[u8], out: &mut [u8; 64]) -> TagAnswer
 
 // A tag that is its own text.
 fn text_tag(text: &[u8], out: &mut [u8; 64]) -> TagAnswer
-    ensures { λ r. ⌜ record { answer = r; output = now (out .exit) } ≡ tagOut (some (now (text .entry))) (now (out .entry)) ⌝ }
+    ensures { λ r. ⌜ outcome (tagIs r) (now (out .exit)) ≡ tagOut (some (now (text .entry))) (now (out .entry)) ⌝ }
 {
     let n = text.len();
     if n == 0 {
@@ -125,7 +118,7 @@ fn is_marked(text: &[u8]) -> bool
 
 // The tag that was typed, to the start of the output, whose later bytes stay as they are.
 pub fn tag(text: &[u8], out: &mut [u8; 64]) -> TagAnswer
-    ensures { λ r. ⌜ record { answer = r; output = now (out .exit) } ≡ tagOut (tagBytes (now (text .entry))) (now (out .entry)) ⌝ }
+    ensures { λ r. ⌜ outcome (tagIs r) (now (out .exit)) ≡ tagOut (tagBytes (now (text .entry))) (now (out .entry)) ⌝ }
     ensures { λ r. ⌜ Starts (tagLength r) (now (out .exit)) ⌝ }
 {
     if is_marked(text) {

@@ -2,9 +2,11 @@
 ghost use mathlib.Core.Path.{_≡_};
 ghost use Prim.Native.Nat.{_≤_};
 ghost use lib.ListN.{length, take, drop};
-ghost use Rattle.commands.specs.Words.{blank as blankOf, skipBlanks, trimEnd, trim, word as wordOf, afterWord, same as sameOf};
-ghost use Rattle.commands.specs.Numbers.{valueOf, numberIs};
-ghost use Rattle.commands.specs.Commands.{withText, alone as aloneOf, viewOf, viewed as viewedOf, settingsOf, set as setOf, namedFile, namedWhole, named as namedOf, commandOf, argumentOf};
+ghost use Rattle.commands.specs.Words.{blank as blankOf, front as frontOf, skipBlanks, trimEnd, trim, word as wordOf, afterWord, same as sameOf};
+ghost use Rattle.commands.specs.Numbers.{valueOf};
+ghost use Rattle.commands.specs.Internal.{numberIs};
+ghost use Rattle.commands.specs.Commands.{withText, alone as aloneOf, lastWord, viewCommand, viewLine, settingsCommand, settingsLine, keywords, asksOf, named as namedOf, commandOf, argumentOf};
+use super::Asks;
 use super::Command;
 use super::Decimal;
 
@@ -21,13 +23,13 @@ fn blank(b: u8) -> bool
     b == b'\r'
 }
 
-// How many blanks stand in front.
-fn blanks(text: &[u8]) -> usize
-    ensures { λ r. ⌜ (r ≤ length (now (text .entry))) × (drop r (now (text .entry)) ≡ skipBlanks (now (text .entry))) ⌝ }
+// How many bytes in front are blanks, or are none.
+fn front(text: &[u8], blanks: bool) -> usize
+    ensures { λ r. ⌜ (r ≤ length (now (text .entry))) × (r ≡ frontOf blanks (now (text .entry))) ⌝ }
 {
     let mut i = 0;
     while i < text.len() {
-        if !blank(text[i]) {
+        if blank(text[i]) != blanks {
             return i;
         }
         i += 1;
@@ -38,7 +40,7 @@ fn blanks(text: &[u8]) -> usize
 fn skip_blanks(text: &[u8]) -> &[u8]
     ensures { λ r. ⌜ now r ≡ skipBlanks (now (text .entry)) ⌝ }
 {
-    let n = blanks(text);
+    let n = front(text, true);
     &text[n..]
 }
 
@@ -69,24 +71,10 @@ fn trimmed(line: &[u8]) -> &[u8]
     trim_end(skip_blanks(line))
 }
 
-// Where the first word ends.
-fn word_end(text: &[u8]) -> usize
-    ensures { λ r. ⌜ (r ≤ length (now (text .entry))) × (take r (now (text .entry)) ≡ wordOf (now (text .entry))) × (skipBlanks (drop r (now (text .entry))) ≡ afterWord (now (text .entry))) ⌝ }
-{
-    let mut i = 0;
-    while i < text.len() {
-        if blank(text[i]) {
-            return i;
-        }
-        i += 1;
-    }
-    i
-}
-
 fn word(text: &[u8]) -> &[u8]
     ensures { λ r. ⌜ now r ≡ wordOf (now (text .entry)) ⌝ }
 {
-    let n = word_end(text);
+    let n = front(text, false);
     &text[..n]
 }
 
@@ -94,7 +82,7 @@ fn word(text: &[u8]) -> &[u8]
 fn after_word(text: &[u8]) -> &[u8]
     ensures { λ r. ⌜ now r ≡ afterWord (now (text .entry)) ⌝ }
 {
-    let n = word_end(text);
+    let n = front(text, false);
     skip_blanks(&text[n..])
 }
 
@@ -154,8 +142,22 @@ fn alone(c: Command, rest: &[u8]) -> Command
     if rest.len() == 0 { c } else { Command::Extra }
 }
 
-fn view_of(bucket: Decimal) -> Command
-    ensures { λ r. ⌜ r ≡ viewOf (numberIs bucket) ⌝ }
+// A command that takes one word more, the last.
+fn last_word(c: Command, rest: &[u8]) -> Command
+    ensures { λ r. ⌜ r ≡ lastWord c (now (rest .entry)) ⌝ }
+{
+    with_text(alone(c, after_word(rest)), rest)
+}
+
+// The number that the first word is.
+fn first_number(text: &[u8]) -> Decimal
+    ensures { λ r. ⌜ numberIs r ≡ valueOf (wordOf (now (text .entry))) ⌝ }
+{
+    number(word(text))
+}
+
+fn view_command(bucket: Decimal) -> Command
+    ensures { λ r. ⌜ r ≡ viewCommand (numberIs bucket) ⌝ }
 {
     match bucket {
         Decimal::Value(b) => Command::View(b),
@@ -164,15 +166,14 @@ fn view_of(bucket: Decimal) -> Command
 }
 
 // The command that takes one number.
-fn viewed(rest: &[u8]) -> Command
-    ensures { λ r. ⌜ r ≡ viewedOf (now (rest .entry)) ⌝ }
+fn view_line(rest: &[u8]) -> Command
+    ensures { λ r. ⌜ r ≡ viewLine (now (rest .entry)) ⌝ }
 {
-    let c = view_of(number(word(rest)));
-    with_text(alone(c, after_word(rest)), rest)
+    last_word(view_command(first_number(rest)), rest)
 }
 
-fn settings_of(rule: Decimal, width: Decimal, buckets: Decimal, mask: Decimal) -> Command
-    ensures { λ r. ⌜ r ≡ settingsOf (numberIs rule) (numberIs width) (numberIs buckets) (numberIs mask) ⌝ }
+fn settings_command(rule: Decimal, width: Decimal, buckets: Decimal, mask: Decimal) -> Command
+    ensures { λ r. ⌜ r ≡ settingsCommand (numberIs rule) (numberIs width) (numberIs buckets) (numberIs mask) ⌝ }
 {
     let Decimal::Value(r) = rule else {
         return Command::NotNumber;
@@ -190,75 +191,69 @@ fn settings_of(rule: Decimal, width: Decimal, buckets: Decimal, mask: Decimal) -
 }
 
 // The command that takes four numbers.
-fn set(rest: &[u8]) -> Command
-    ensures { λ r. ⌜ r ≡ setOf (now (rest .entry)) ⌝ }
+fn settings_line(rest: &[u8]) -> Command
+    ensures { λ r. ⌜ r ≡ settingsLine (now (rest .entry)) ⌝ }
 {
     let second = after_word(rest);
     let third = after_word(second);
     let fourth = after_word(third);
-    let rule = number(word(rest));
-    let width = number(word(second));
-    let buckets = number(word(third));
-    let mask = number(word(fourth));
-    let c = settings_of(rule, width, buckets, mask);
-    with_text(alone(c, after_word(fourth)), fourth)
+    let rule = first_number(rest);
+    let width = first_number(second);
+    let buckets = first_number(third);
+    let mask = first_number(fourth);
+    last_word(settings_command(rule, width, buckets, mask), fourth)
 }
 
-// The commands on files.
-fn named_file(name: &[u8], rest: &[u8]) -> Command
-    ensures { λ r. ⌜ r ≡ namedFile (now (name .entry)) (now (rest .entry)) ⌝ }
-{
-    if same(name, b"save") {
-        return with_text(Command::Save, rest);
-    }
-    if same(name, b"load") {
-        return with_text(Command::Load, rest);
-    }
-    if same(name, b"pack") {
-        return with_text(Command::Pack, rest);
-    }
-    if same(name, b"unpack") {
-        return with_text(Command::Unpack, rest);
-    }
-    Command::Unknown
-}
+// The keywords: their names, and what each asks for, in the same order.
+const NAMES: [u8; 72] =
+    *b"hold release lookup save load pack unpack view settings clear stats help";
 
-// The commands on the list as a whole, or on a file.
-fn named_whole(name: &[u8], rest: &[u8]) -> Command
-    ensures { λ r. ⌜ r ≡ namedWhole (now (name .entry)) (now (rest .entry)) ⌝ }
+const KEYWORDS: usize = 12;
+
+const ASKS: [Asks; KEYWORDS] = [
+    Asks::Text(Command::Hold),
+    Asks::Text(Command::Release),
+    Asks::Text(Command::Lookup),
+    Asks::Text(Command::Save),
+    Asks::Text(Command::Load),
+    Asks::Text(Command::Pack),
+    Asks::Text(Command::Unpack),
+    Asks::View,
+    Asks::Settings,
+    Asks::Nothing(Command::Clear),
+    Asks::Nothing(Command::Stats),
+    Asks::Nothing(Command::Help),
+];
+
+// What a name asks for.
+fn keyword(name: &[u8]) -> Asks
+    ensures { λ r. ⌜ r ≡ asksOf (now (name .entry)) keywords ⌝ }
 {
-    if same(name, b"settings") {
-        return set(rest);
+    let asks = ASKS;
+    let mut rest: &[u8] = &NAMES;
+    let mut k = 0;
+    while k < KEYWORDS {
+        if same(name, word(rest)) {
+            return asks[k];
+        }
+        let next = after_word(rest);
+        rest = next;
+        k += 1;
     }
-    if same(name, b"clear") {
-        return alone(Command::Clear, rest);
-    }
-    if same(name, b"stats") {
-        return alone(Command::Stats, rest);
-    }
-    if same(name, b"help") {
-        return alone(Command::Help, rest);
-    }
-    named_file(name, rest)
+    Asks::Unknown
 }
 
 // The command of a name, by what follows it.
 fn named(name: &[u8], rest: &[u8]) -> Command
     ensures { λ r. ⌜ r ≡ namedOf (now (name .entry)) (now (rest .entry)) ⌝ }
 {
-    if same(name, b"hold") {
-        return with_text(Command::Hold, rest);
+    match keyword(name) {
+        Asks::Text(c) => with_text(c, rest),
+        Asks::Nothing(c) => alone(c, rest),
+        Asks::View => view_line(rest),
+        Asks::Settings => settings_line(rest),
+        Asks::Unknown => Command::Unknown,
     }
-    if same(name, b"release") {
-        return with_text(Command::Release, rest);
-    }
-    if same(name, b"lookup") {
-        return with_text(Command::Lookup, rest);
-    }
-    if same(name, b"view") {
-        return viewed(rest);
-    }
-    named_whole(name, rest)
 }
 
 // What a line asks for. The line has no line end.

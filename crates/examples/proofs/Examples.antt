@@ -8,26 +8,26 @@ use Prim.Native.Nat.{ℕ, _*_, _^_}
 use lib.ListN.{length}
 use Rattle.lemmas.specs.Count.{hit}
 use Rattle.lemmas.specs.Members.{membersBelow}
-use Rattle.index.specs.Checks.{given}
+use Rattle.refusals.specs.Outcomes.{given, outcome}
 use Rattle.index.specs.declared.Settings.{Settings}
 use Rattle.index.specs.Settings.{powerOfTwo, settingsChecks, settingsRefusal, half, modulus}
 use Rattle.index.specs.Hash.{fnvStep, fnvFrom, fnv1a, fingerprintOf, homeOf, fingerprint, home, tagChecks}
 use Rattle.index.specs.Candidates.{offset, across, coMask, xorSteps, othersBy, others, candidates}
-use Rattle.table.specs.Cells.{scan, lowestEmpty}
-use Rattle.table.specs.Search.{leadsTo, searchFrom, searchFor}
-use Rattle.table.specs.Calls.{tableChecks, scratchChecks, fresh, holdRefusal, holdIn, hold}
-use Rattle.table.specs.Writing.{anyFrom}
-use Rattle.holdfile.specs.Writer.{header, body, fileOf}
-use Rattle.holdfile.specs.Reader.{readFile}
-use Rattle.holdfile.proofs.RoundTrip.{written-is-read}
+use Rattle.calls.specs.Cells.{scan, lowestEmpty}
+use Rattle.calls.specs.Search.{leadsTo, searchFrom, searchFor}
+use Rattle.calls.specs.Calls.{tableChecks, scratchChecks, fresh, holdChecks, holdIn, hold}
+use Rattle.calls.specs.WrittenForms.{anyFrom}
+use Rattle.file_form.specs.Writer.{header, body, fileOf}
+use Rattle.file_form.specs.Reader.{readFile}
+use Rattle.file_form.proofs.RoundTrip.{written-is-read}
 use Rattle.rows.specs.Rows.{rows, rowOf}
-use Rattle.packed.specs.Writer.{sortBuckets, codeOf, bucketBits, streamOf, packedLength, packedOf}
-use Rattle.examples.specs.Examples.{Holds, files, AllHold, examples}
+use Rattle.packed_form.specs.Writer.{sortBuckets, codeOf, bucketBits, streamOf, packedLength, packedOf}
+use Rattle.examples.specs.Examples.{Yields, files, AllYield, examples}
 
 -- the file by computing, and the way back by the round trip
-filed : (s : Settings) (c bytes : List ℕ) → fileOf s c ≡ bytes → settingsRefusal s ≡ none → length c ≡ 4 * s .buckets → anyFrom (2 ^ s .width) c ≡ false → Holds (files s c bytes)
-filed s c bytes e g l a = (e, λ t k. subst (λ (b : List ℕ). readFile b t ≡ record { answer = given s; cells = c }) e (written-is-read .back s c t g l k a))
+filed : (s : Settings) (c bytes : List ℕ) → fileOf s c ≡ bytes → settingsRefusal s ≡ none → length c ≡ 4 * s .buckets → anyFrom (2 ^ s .width) c ≡ false → Yields (files s c bytes)
+filed s c bytes e g l a = (e, λ t k. subst (λ (b : List ℕ). readFile b t ≡ outcome (given s) c) e (written-is-read .back s c t g l k a))
 
-pub examples-hold : AllHold examples
-unfolding examples half across coMask xorSteps othersBy powerOfTwo settingsChecks modulus fnvStep fnvFrom fnv1a fingerprintOf homeOf fingerprint home tagChecks offset others candidates lowestEmpty leadsTo searchFrom searchFor tableChecks scratchChecks fresh holdRefusal holdIn hold settingsRefusal fileOf header body rows rowOf sortBuckets codeOf bucketBits streamOf packedLength packedOf
+pub examples-hold : AllYield examples
+unfolding examples half across coMask xorSteps othersBy powerOfTwo settingsChecks modulus fnvStep fnvFrom fnv1a fingerprintOf homeOf fingerprint home tagChecks offset others candidates lowestEmpty leadsTo searchFrom searchFor tableChecks scratchChecks fresh holdChecks holdIn hold fileOf header body rows rowOf sortBuckets codeOf bucketBits streamOf packedLength packedOf
 examples-hold = (refl, (refl, (refl, (refl, (refl, (refl, (refl, (refl, (filed _ _ _ refl refl refl refl, (refl, (refl, (refl, (refl, (refl, (refl, tt)))))))))))))))

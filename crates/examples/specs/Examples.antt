@@ -1,26 +1,27 @@
--- The starred examples of document 01, as a list. `proofs/Examples.antt` has the one theorem over it, which alone computes through the
+-- The starred examples of document 01, as a list of what the definitions have to yield. `proofs/Examples.antt` has the one theorem over it, which alone computes through the
 -- definitions of every layer.
 -- Assumes nothing.
 use mathlib.Core.Path.{_≡_}
 use mathlib.Core.List.{List, [], _∷_, _++_}
 use Prim.Native.Nat.{ℕ, zero, suc, _*_}
 use lib.ListN.{length}
-use Rattle.index.specs.Checks.{given}
+use Rattle.refusals.specs.Outcomes.{Answer, refused, given, outcome}
+use Rattle.index.specs.Settings.{defaultSettings}
 use Rattle.index.specs.Candidates.{othersBy}
 use Rattle.index.specs.declared.Settings.{Settings}
-use Rattle.table.specs.Calls.{Reply, refused, accepted, fresh}
-use Rattle.table.specs.Model.{Call, holdOf}
-use Rattle.table.specs.Demand.{run}
-use Rattle.holdfile.specs.Writer.{fileOf}
-use Rattle.holdfile.specs.Reader.{readFile}
+use Rattle.calls.specs.Calls.{Said, accepted, fresh}
+use Rattle.calls.specs.Model.{Call, holdOf}
+use Rattle.calls.specs.Demand.{run}
+use Rattle.file_form.specs.Writer.{fileOf}
+use Rattle.file_form.specs.Reader.{readFile}
 use Rattle.rows.specs.Rows.{quadruple, rowOf}
-use Rattle.packed.specs.Writer.{packedOf}
+use Rattle.packed_form.specs.Writer.{packedOf}
 
 pub data Example : Type 0 where
   -- with an offset given, a bucket has these candidates, in order
   leads : (s : Settings) (offset bucket : ℕ) (candidates : List ℕ) → Example
   -- a fresh table says this to a list of calls
-  says : (s : Settings) (calls : List Call) (replies : List Reply) → Example
+  says : (s : Settings) (calls : List Call) (replies : List (Answer Said)) → Example
   -- settings and cells make this hold file, and reading it gives them back
   files : (s : Settings) (cells bytes : List ℕ) → Example
   -- a quadruple of high nibbles has this row
@@ -28,20 +29,20 @@ pub data Example : Type 0 where
   -- settings and cells have this packed form
   packs : (s : Settings) (cells bytes : List ℕ) → Example
 
-abbrev pub Holds : Example → Type 0
-Holds (leads s d b l) = b ∷ othersBy s d b ≡ l
-Holds (says s l r) = run s (fresh s) l .replies ≡ r
-Holds (files s c l) = (fileOf s c ≡ l) × ((t : List ℕ) → length t ≡ 4 * s .buckets → readFile l t ≡ record { answer = given s; cells = c })
-Holds (row a b c d r) = rowOf (quadruple a b c d) ≡ r
-Holds (packs s c l) = packedOf s c ≡ l
+abbrev pub Yields : Example → Type 0
+Yields (leads s d b l) = b ∷ othersBy s d b ≡ l
+Yields (says s l r) = run s (fresh s) l .replies ≡ r
+Yields (files s c l) = (fileOf s c ≡ l) × ((t : List ℕ) → length t ≡ 4 * s .buckets → readFile l t ≡ outcome (given s) c)
+Yields (row a b c d r) = rowOf (quadruple a b c d) ≡ r
+Yields (packs s c l) = packedOf s c ≡ l
 
-abbrev pub AllHold : List Example → Type 0
-AllHold [] = Unit {0}
-AllHold (e ∷ es) = Holds e × AllHold es
+abbrev pub AllYield : List Example → Type 0
+AllYield [] = Unit {0}
+AllYield (e ∷ es) = Yields e × AllYield es
 
 -- rule, bucket count and mask; the width has no part in these, and is the default's
 abbrev pub with : ℕ → ℕ → ℕ → Settings
-with r m k = record { rule = r; width = 12; buckets = m; mask = k }
+with r m k = record { rule = r; width = defaultSettings .width; buckets = m; mask = k }
 
 abbrev pub times : {A : Type 0} → ℕ → A → List A
 times zero a = []
@@ -63,8 +64,8 @@ examples =
     ∷ leads (with 1 10 0) 4 7 (7 ∷ 3 ∷ [])
     ∷ leads (with 2 16 12) 13 6 (6 ∷ 10 ∷ 7 ∷ 11 ∷ [])
     ∷ leads (with 2 16 12) 13 10 (10 ∷ 6 ∷ 11 ∷ 7 ∷ [])
-    ∷ says (with 0 1 0) (holds 5 1) (times 4 (accepted 0) ++ (refused 9 ∷ []))
-    ∷ says (with 1 2 0) (holds 9 2) (times 8 (accepted 0) ++ (refused 9 ∷ []))
+    ∷ says (with 0 1 0) (holds 5 1) (times 4 (given (accepted 0)) ++ (refused 9 ∷ []))
+    ∷ says (with 1 2 0) (holds 9 2) (times 8 (given (accepted 0)) ++ (refused 9 ∷ []))
     ∷ files small (0 ∷ 9 ∷ 0 ∷ 3 ∷ []) (0x06 ∷ 0x04 ∷ 0x00 ∷ 0x00 ∷ 0x0A ∷ 0x09 ∷ 0x00 ∷ 0x03 ∷ 0x00 ∷ [])
     ∷ row 0 0 0 15 15
     ∷ row 0 0 1 1 16

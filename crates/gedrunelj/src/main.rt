@@ -433,6 +433,16 @@ fn begin_list(state: State, s: Settings, cells: &mut [u16]) -> State {
     }
 }
 
+// The settings that a line names, over the defaults.
+fn named_settings(rule: u32, width: u32, buckets: u32, mask: u32) -> Settings {
+    let mut s = Settings::defaults();
+    s.rule = rule;
+    s.width = width;
+    s.buckets = buckets;
+    s.mask = mask;
+    s
+}
+
 fn set(state: State, s: Settings, cells: &mut [u16]) -> State {
     let c = lent(s, cells);
     begin_list(state, s, &mut cells[..c])
@@ -440,7 +450,7 @@ fn set(state: State, s: Settings, cells: &mut [u16]) -> State {
 
 fn print_stats(state: State, cells: &[u16]) {
     let buckets = state.settings.buckets;
-    let entries = commands::entries(cells);
+    let entries = table::filled(cells);
     print_with(b"entries ", entries as u64, b", buckets ");
     print_number(buckets as u64);
     let load = commands::permille(to_u32(entries), to_u32(cells.len())) as u64;
@@ -604,13 +614,7 @@ fn answer(
         }
         Command::Clear => set(state, state.settings, cells),
         Command::Settings(rule, width, buckets, mask) => {
-            let s = Settings {
-                rule,
-                width,
-                buckets,
-                mask,
-            };
-            set(state, s, cells)
+            set(state, named_settings(rule, width, buckets, mask), cells)
         }
         Command::Load => load(state, commands::argument(line), cells, space),
         Command::Unpack => unpack(state, commands::argument(line), cells, space),

@@ -2,7 +2,7 @@
 -- Assumes nothing.
 use mathlib.Core.Path.{_≡_, refl, sym, ap, ap₂, _∙_, subst}
 use mathlib.Core.Logic.{_≢_}
-use mathlib.Core.Bool.{Bool, true, false, cond, not, _||_, _&&_}
+use mathlib.Core.Bool.{Bool, true, false, cond, _||_, _&&_}
 use mathlib.Core.Option.{Option}
 use mathlib.Core.List.{List, [], _∷_, _++_, append-assoc, append-nil}
 use Prim.Native.Nat.{ℕ, zero, suc, _+_, _*_, _-_, _%_, _^_, _≤_, _<_}
@@ -11,17 +11,22 @@ use native.Mathlib.Numerals.{add-one}
 use native.Mathlib.Omega.{arith}
 use borrow.Author.Tests.{eq-eqb, ne-eqb, leb-true, leb-false}
 use lib.Dec.{eqb, leb}
-use lib.ListN.{length, take, drop, getD, set, drop-of-length-le}
+use borrow.Rule.Slice.PartMut.{postOf, putMid}
+use lib.ListN.{length, take, drop, getD, set, length-append, drop-of-length-le}
 use lib.Pow.{shl-exact}
-use lib.Seq.{drop-cons, sets-eq, take-add, drop-at, take-at, take-all, length-take-le}
-use Rattle.index.specs.Checks.{numberOf, refused, given}
+use lib.Seq.{drop-cons, take-at, take-all, length-take-le}
+use Rattle.refusals.specs.Checks.{firstMet, numberOf}
+use Rattle.refusals.specs.Outcomes.{refused, given, Done, done, Outcome, outcome, keeping}
+use Rattle.refusals.proofs.Cursor.{number-met}
 use Rattle.index.specs.declared.Settings.{Settings}
-use Rattle.table.specs.Calls.{clearRefusal}
+use Rattle.calls.specs.Calls.{tableChecks, Sound}
+use Rattle.calls.proofs.Laws.{table-check-laws}
 use Rattle.holdfile.specs.declared.Field.{Field}
-use Rattle.holdfile.specs.Parts.{fieldIs, pairFrom, cellFrom, PrintAt, FullAt, endOf, Passed, cellsOf, Stored, afterBuckets, afterHeader, toldRead}
-use Rattle.holdfile.proofs.Refusals.{clear-passes, clear-number}
-use Rattle.holdfile.specs.Bytes.{bit0, bit1, bit2, bit3}
-use Rattle.holdfile.specs.Reader.{Parsed, stop, next, andThen, takeByte, takePair, field, refuseIf, misfit, settingsOf, readFields, readHeader, readCell, readCells, readBucket, readBuckets, ReadOut, leftOver, checked, readAll, readOut, readFile}
+use Rattle.holdfile.specs.Internal.{fieldIs, pairFrom, cellFrom, PrintAt, FullAt, endOf, GivesCells, cellsRead}
+use Rattle.file_form.specs.Bytes.{bit0, bit1, bit2, bit3}
+use Rattle.file_form.specs.Parsed.{Parsed, stop, next, andThen, refuseIf, checked, answerOf}
+use Rattle.file_form.specs.Fields.{field}
+use Rattle.file_form.specs.Reader.{takeByte, takePair, readHeader, readCell, readCells, readBucket, readBuckets, leftOver, afterBuckets, afterHeader, readAll, readFile}
 
 -- ── fields ──
 module _ (l : List ℕ) (at : ℕ) where
@@ -57,12 +62,12 @@ field-absent false d read l e = refl
 pub record AtField {B : Type 0} (whole : Parsed B) (p : Parsed ℕ) (then : ℕ → List ℕ → Parsed B) : Type 0 where
   pub is : whole ≡ andThen p then
 
-module _ {B : Type 0} {whole : Parsed B} {p : Parsed ℕ} {then : ℕ → List ℕ → Parsed B} (l : List ℕ) (f : Field) where
-  pub field-taken : AtField whole p then → fieldIs l f ≡ p → {v at : ℕ} → f ≡ Field.Value v at → whole ≡ then v (drop at l)
-  field-taken e q t = e .is ∙ ap (λ (x : Parsed ℕ). andThen x then) (sym q ∙ ap (fieldIs l) t)
+module _ {B : Type 0} {whole : Parsed B} {p : Parsed ℕ} {then : ℕ → List ℕ → Parsed B} (l : List ℕ) {f : Field} where
+  pub field-taken : {v at : ℕ} → f ≡ Field.Value v at → fieldIs l f ≡ p → AtField whole p then → whole ≡ then v (drop at l)
+  field-taken t q e = e .is ∙ ap (λ (x : Parsed ℕ). andThen x then) (sym q ∙ ap (fieldIs l) t)
 
-  pub field-ends : AtField whole p then → fieldIs l f ≡ p → f ≡ Field.Short → stop 11 ≡ whole
-  field-ends e q t = sym (e .is ∙ ap (λ (x : Parsed ℕ). andThen x then) (sym q ∙ ap (fieldIs l) t))
+  pub field-ends : f ≡ Field.Short → fieldIs l f ≡ p → AtField whole p then → stop 11 ≡ whole
+  field-ends t q e = sym (e .is ∙ ap (λ (x : Parsed ℕ). andThen x then) (sym q ∙ ap (fieldIs l) t))
 
 -- and to a test
 pub record AtTest {B : Type 0} (whole : Parsed B) (t : Bool) (n : ℕ) (then : Parsed B) : Type 0 where
@@ -96,23 +101,6 @@ unfit-zero t v w e z = ap (λ (b : Bool). b || leb (2 ^ w) v) (sym (eq-eqb v 0 z
 pub unfit-wide : (t : Bool) (v w : ℕ) → t ≡ true → v ≢ 0 → leb (2 ^ w) v ≡ (t && (eqb v 0 || leb (2 ^ w) v))
 unfit-wide t v w e z = ap (λ (b : Bool). b || leb (2 ^ w) v) (sym (ne-eqb v 0 z)) ∙ and-right t (eqb v 0 || leb (2 ^ w) v) e
 
--- ── the other causes of 12 ──
-module _ (a b c d e : Bool) where
-  pub misfit-0 : a ≡ true → true ≡ (a || b || c || cond d (not e) e)
-  misfit-0 h = rw h refl
-
-  pub misfit-1 : a ≡ false → b ≡ true → true ≡ (a || b || c || cond d (not e) e)
-  misfit-1 h k = rw (h, k) refl
-
-  pub misfit-2 : a ≡ false → b ≡ false → c ≡ true → true ≡ (a || b || c || cond d (not e) e)
-  misfit-2 h k m = rw (h, k, m) refl
-
-  pub misfit-3 : a ≡ false → b ≡ false → c ≡ false → d ≡ true → not e ≡ (a || b || c || cond d (not e) e)
-  misfit-3 h k m n = rw (h, k, m, n) refl
-
-  pub misfit-4 : a ≡ false → b ≡ false → c ≡ false → d ≡ false → e ≡ (a || b || c || cond d (not e) e)
-  misfit-4 h k m n = rw (h, k, m, n) refl
-
 -- ── a bucket, one cell after the other ──
 abbrev pub unfitOf : ℕ → Bool → ℕ → Bool
 unfitOf w t v = t && (eqb v 0 || leb (2 ^ w) v)
@@ -133,15 +121,19 @@ by-field {B} {whole} {w} {t} {bytes} {then} e = record { is = e .is ∙ ap (λ (
     regroup (stop n) = refl
     regroup (next v rest) = refl
 
-module _ {B : Type 0} {whole : Parsed B} {w : ℕ} {t : Bool} {bytes : List ℕ} {then : ℕ → List ℕ → Parsed B} (l : List ℕ) (f : Field) where
-  pub cell-ends : AtCell whole w t bytes then → fieldIs l f ≡ field t 0 takePair bytes → f ≡ Field.Short → stop 11 ≡ whole
-  cell-ends e q s = field-ends l f (by-field e) q s
+module _ {B : Type 0} {whole : Parsed B} {w : ℕ} {t : Bool} {bytes : List ℕ} {then : ℕ → List ℕ → Parsed B} (l : List ℕ) {f : Field} where
+  pub cell-ends : f ≡ Field.Short → fieldIs l f ≡ field t 0 takePair bytes → AtCell whole w t bytes then → stop 11 ≡ whole
+  cell-ends s q e = field-ends l s q (by-field e)
 
-  pub cell-unfit : AtCell whole w t bytes then → fieldIs l f ≡ field t 0 takePair bytes → {v at : ℕ} {u : Bool} → f ≡ Field.Value v at → u ≡ unfitOf w t v → u ≡ true → stop 14 ≡ whole
-  cell-unfit e q {v} {at} s k h = sym (field-taken l f (by-field e) q s ∙ ap (λ (b : Bool). andThen (refuseIf b 14 (next v (drop at l))) then) (sym k ∙ h))
+  module _ {v at : ℕ} {u : Bool} (s : f ≡ Field.Value v at) (q : fieldIs l f ≡ field t 0 takePair bytes) (k : u ≡ unfitOf w t v) (e : AtCell whole w t bytes then) where
+    tested : (b : Bool) → u ≡ b → whole ≡ andThen (refuseIf b 14 (next v (drop at l))) then
+    tested b h = field-taken l s q (by-field e) ∙ ap (λ (x : Bool). andThen (refuseIf x 14 (next v (drop at l))) then) (sym k ∙ h)
 
-  pub cell-taken : AtCell whole w t bytes then → fieldIs l f ≡ field t 0 takePair bytes → {v at : ℕ} {u : Bool} → f ≡ Field.Value v at → u ≡ unfitOf w t v → u ≡ false → whole ≡ then v (drop at l)
-  cell-taken e q {v} {at} s k h = field-taken l f (by-field e) q s ∙ ap (λ (b : Bool). andThen (refuseIf b 14 (next v (drop at l))) then) (sym k ∙ h)
+    pub cell-unfit : u ≡ true → stop 14 ≡ whole
+    cell-unfit h = sym (tested true h)
+
+    pub cell-taken : u ≡ false → whole ≡ then v (drop at l)
+    cell-taken h = tested false h
 
 -- what is left of a bucket: the test of its byte, and what stands behind each cell
 abbrev pub behind3 : ℕ → ℕ → ℕ → ℕ → List ℕ → Parsed (List ℕ)
@@ -196,14 +188,14 @@ full-taken w l at h m a b c true d = (
 )
 
 -- ── a bucket that has passed ──
-stops-never : {p : Parsed (List ℕ)} {n : ℕ} → Passed p → p ≡ stop n → ⊥
-stops-never h e = subst Passed e h
+stops-never : {p : Parsed (List ℕ)} {n : ℕ} → GivesCells p → p ≡ stop n → ⊥
+stops-never h e = subst GivesCells e h
 
 -- a whole that passes, and has come to a cell
 pub record Come (whole : Parsed (List ℕ)) (w : ℕ) (t : Bool) (l : List ℕ) (at : ℕ) (then : ℕ → List ℕ → Parsed (List ℕ)) : Type 0 where
   pub is : whole ≡ andThen (readCell w t (drop at l)) then
   pub within : at ≤ length l
-  pub passed : Passed whole
+  pub passed : GivesCells whole
 
 module _ {whole : Parsed (List ℕ)} {w : ℕ} {t : Bool} {l : List ℕ} {at : ℕ} {then : ℕ → List ℕ → Parsed (List ℕ)} (k : Come whole w t l at then) where
   -- the cell stands whole in the bytes
@@ -217,7 +209,8 @@ module _ {whole : Parsed (List ℕ)} {w : ℕ} {t : Bool} {l : List ℕ} {at : �
           decide : (b : Bool) → leb (at + 2) (length l) ≡ b → at + 2 ≤ length l
           decide true h = leb-true (at + 2) (length l) h
           decide false h =
-              absurd (stops-never (k .passed) (e ∙ ap (λ (p : Parsed ℕ). andThen (andThen p (λ x rest. refuseIf (eqb x 0 || leb (2 ^ w) x) 14 (next x rest))) then) (no-two l at (omega (arith, leb-false (at + 2) (length l) h)))))
+              let short = no-two l at (omega (arith, leb-false (at + 2) (length l) h)) in
+              absurd (stops-never (k .passed) (e ∙ ap (λ (p : Parsed ℕ). andThen (andThen p (λ x rest. refuseIf (eqb x 0 || leb (2 ^ w) x) 14 (next x rest))) then) short))
 
   -- and its bytes are its value
   pub come-on : {end : ℕ} → end ≡ at + cond t 2 0 → whole ≡ then (cellFrom l at t) (drop end l)
@@ -247,7 +240,7 @@ module _ {whole : Parsed (List ℕ)} {w : ℕ} {t : Bool} {l : List ℕ} {at : �
   come-next {u} {more} {end} e f = record { is = come-on e ∙ f (drop end l); within = omega (arith, come-room, e); passed = k .passed }
 
 -- the byte that marks the cells
-module _ (w : ℕ) (l : List ℕ) (at : ℕ) (h : Passed (readBucket w (drop at l))) where
+module _ (w : ℕ) (l : List ℕ) (at : ℕ) (h : GivesCells (readBucket w (drop at l))) where
   pub marks-in : at < length l
   marks-in = decide (leb (length l) at) refl
     where
@@ -271,6 +264,12 @@ module _ (w : ℕ) (l : List ℕ) (at : ℕ) (h : Passed (readBucket w (drop at 
 
 -- ── buckets ──
 -- cells in front of what a reading gives
+-- a part of four cells put into the table: what stands up to its end
+take-part : (t part : List ℕ) (i : ℕ) → i + 4 ≤ length t → length part ≡ 4 → take (i + 4) (putMid i (i + 4 - i) t part) ≡ take i t ++ part
+take-part t part i h four =
+    ap (take (i + 4)) (sym (append-assoc (take i t) part (postOf i (i + 4 - i) t)))
+    ∙ take-at (take i t ++ part) (postOf i (i + 4 - i) t) (i + 4) (length-append (take i t) part ∙ omega (arith, length-take-le i t (omega arith)))
+
 abbrev pub joined : List ℕ → Parsed (List ℕ) → Parsed (List ℕ)
 joined front p = andThen p (λ cells end. next (front ++ cells) end)
 
@@ -278,7 +277,7 @@ pub joined-nil : (p : Parsed (List ℕ)) → joined [] p ≡ p
 joined-nil (stop n) = refl
 joined-nil (next c end) = refl
 
-joined-append : (f g : List ℕ) (p : Parsed (List ℕ)) → joined (f ++ g) p ≡ joined f (joined g p)
+pub joined-append : (f g : List ℕ) (p : Parsed (List ℕ)) → joined (f ++ g) p ≡ joined f (joined g p)
 joined-append f g (stop n) = refl
 joined-append f g (next c end) = ap (λ (x : List ℕ). next x end) (append-assoc f g c)
 
@@ -325,51 +324,42 @@ module _ (w n : ℕ) (l : List ℕ) (h : 0 < n) where
           ap (λ (x : List ℕ). endOf (readBuckets w (n - 1) x)) same ∙ sym (ap endOf (bucket-then four end q) ∙ end-joined four (readBuckets w (n - 1) end))
 
   -- the second pass meets no refusal
-  pub passes-first : (front : List ℕ) → Passed (joined front (readBuckets w n l)) → Passed (readBucket w l)
+  pub passes-first : (front : List ℕ) → GivesCells (joined front (readBuckets w n l)) → GivesCells (readBucket w l)
   passes-first front p = go (readBucket w l) refl
     where
-      go : (r : Parsed (List ℕ)) → readBucket w l ≡ r → Passed r
-      go (stop k) e = subst (λ (x : Parsed (List ℕ)). Passed (joined front x)) (bucket-stops k e) p
+      go : (r : Parsed (List ℕ)) → readBucket w l ≡ r → GivesCells r
+      go (stop k) e = subst (λ (x : Parsed (List ℕ)). GivesCells (joined front x)) (bucket-stops k e) p
       go (next four rest) e = tt
 
   -- and has one bucket more in the table
-  pub store-turn : (at i end : ℕ) (bytes before after : List ℕ) → l ≡ drop at bytes → Stored w bytes before after at i end
-      → joined (take (i + 4) after) (readBuckets w (n - 1) (drop end bytes)) ≡ joined (take i before) (readBuckets w n l)
-  store-turn at i end bytes before after e k =
-      ap (λ (x : List ℕ). joined x (readBuckets w (n - 1) (drop end bytes))) (take-add i 4 after)
-      ∙ joined-append (take i after) (take 4 (drop i after)) (readBuckets w (n - 1) (drop end bytes))
-      ∙ ap₂ joined (k .front) (sym (bucket-then (take 4 (drop i after)) (drop end bytes) (ap (readBucket w) e ∙ k .bucket)))
+  pub store-turn : (at i end : ℕ) (bytes before part : List ℕ) → l ≡ drop at bytes → i + 4 ≤ length before → length part ≡ 4
+      → readBucket w (drop at bytes) ≡ next part (drop end bytes)
+      → joined (take (i + 4) (putMid i (i + 4 - i) before part)) (readBuckets w (n - 1) (drop end bytes)) ≡ joined (take i before) (readBuckets w n l)
+  store-turn at i end bytes before part e h four k =
+      ap (λ (x : List ℕ). joined x (readBuckets w (n - 1) (drop end bytes))) (take-part before part i h four)
+      ∙ joined-append (take i before) part (readBuckets w (n - 1) (drop end bytes))
+      ∙ ap (joined (take i before)) (sym (bucket-then part (drop end bytes) (ap (readBucket w) e ∙ k)))
 
 pub none-more : (w : ℕ) (l : List ℕ) → readBuckets w 0 l ≡ next [] l
 unfolding readBuckets
 none-more w l = refl
 
-pub store-end : (w left i : ℕ) (l table : List ℕ) (all : Parsed (List ℕ)) → left ≤ 0 → joined (take i table) (readBuckets w left l) ≡ all → i + 4 * left ≡ length table → table ≡ cellsOf all
+pub store-end : (w left i : ℕ) (l table : List ℕ) (all : Parsed (List ℕ)) → left ≤ 0 → joined (take i table) (readBuckets w left l) ≡ all → i + 4 * left ≡ length table → table ≡ cellsRead all
 store-end w left i l table all h e k =
     let z : left ≡ 0 = omega arith in
-    sym (ap cellsOf (sym e ∙ ap (joined (take i table)) (ap (λ (n : ℕ). readBuckets w n l) z ∙ none-more w l)) ∙ append-nil (take i table) ∙ take-all i table (omega arith))
+    sym (ap cellsRead (sym e ∙ ap (joined (take i table)) (ap (λ (n : ℕ). readBuckets w n l) z ∙ none-more w l)) ∙ append-nil (take i table) ∙ take-all i table (omega arith))
 
--- four cells put into the middle of the table
-four-set : (t : List ℕ) (i a b c d : ℕ) → i + 4 ≤ length t → set (set (set (set t i a) (i + 1) b) (i + 2) c) (i + 3) d ≡ take i t ++ ((a ∷ b ∷ c ∷ d ∷ []) ++ drop (i + 4) t)
-four-set t i a b c d h =
-    let e1 : i + 1 ≡ suc i = omega arith in
-    let e2 : i + 2 ≡ suc (suc i) = omega arith in
-    let e3 : i + 3 ≡ suc (suc (suc i)) = omega arith in
-    rw (e1, e2, e3) (sets-eq (a ∷ b ∷ c ∷ d ∷ []) t i h ∙ append-assoc (take i t) (a ∷ b ∷ c ∷ d ∷ []) (drop (i + 4) t))
-
-pub stored : (w : ℕ) (l t : List ℕ) (at i end a b c d : ℕ) → i + 4 ≤ length t → readBucket w (drop at l) ≡ next (a ∷ b ∷ c ∷ d ∷ []) (drop end l)
-    → (t1 t2 t3 t4 : List ℕ) → t1 ≡ set t i a → t2 ≡ set t1 (i + 1) b → t3 ≡ set t2 (i + 2) c → t4 ≡ set t3 (i + 3) d → Stored w l t t4 at i end
-stored w l t at i end a b c d h e t1 t2 t3 t4 e1 e2 e3 e4 =
-    let m = length-take-le i t (omega arith) in
-    let all : t4 ≡ take i t ++ ((a ∷ b ∷ c ∷ d ∷ []) ++ drop (i + 4) t) =
-    e4 ∙ ap (λ (x : List ℕ). set x (i + 3) d) (e3 ∙ ap (λ (x : List ℕ). set x (i + 2) c) (e2 ∙ ap (λ (x : List ℕ). set x (i + 1) b) e1)) ∙ four-set t i a b c d h in
-    record {
-      bucket = e ∙ ap (λ (x : List ℕ). next x (drop end l)) (sym (ap (λ (x : List ℕ). take 4 (drop i x)) all ∙ ap (take 4) (drop-at (take i t) ((a ∷ b ∷ c ∷ d ∷ []) ++ drop (i + 4) t) i m)));
-      front = ap (take i) all ∙ take-at (take i t) ((a ∷ b ∷ c ∷ d ∷ []) ++ drop (i + 4) t) i m;
-    }
+-- the four cells of a part, stored one after the other
+pub stored : (t : List ℕ) (a b c d : ℕ) → length t ≡ 4 → (t1 t2 t3 t4 : List ℕ) → t1 ≡ set t 0 a → t2 ≡ set t1 1 b → t3 ≡ set t2 2 c → t4 ≡ set t3 3 d → t4 ≡ a ∷ b ∷ c ∷ d ∷ []
+stored [] a b c d h t1 t2 t3 t4 e1 e2 e3 e4 = absurd (omega arith)
+stored (x ∷ []) a b c d h t1 t2 t3 t4 e1 e2 e3 e4 = absurd (omega arith)
+stored (x ∷ y ∷ []) a b c d h t1 t2 t3 t4 e1 e2 e3 e4 = absurd (omega arith)
+stored (x ∷ y ∷ z ∷ []) a b c d h t1 t2 t3 t4 e1 e2 e3 e4 = absurd (omega arith)
+stored (x ∷ y ∷ z ∷ w ∷ []) a b c d h t1 t2 t3 t4 e1 e2 e3 e4 = rw (e4, e3, e2, e1) refl
+stored (x ∷ y ∷ z ∷ w ∷ v ∷ t) a b c d h t1 t2 t3 t4 e1 e2 e3 e4 = absurd (omega arith)
 
 -- ── what stands behind the header ──
-pub passed-of : (p : Parsed (List ℕ)) (rest : List ℕ) → next tt rest ≡ endOf p → Passed p
+pub passed-of : (p : Parsed (List ℕ)) (rest : List ℕ) → next tt rest ≡ endOf p → GivesCells p
 passed-of (stop n) rest e = absurd (let z : _≡_ {A = ℕ} 0 1 = cc in omega arith)
 passed-of (next c end) rest e = tt
 
@@ -379,75 +369,50 @@ some-left l at h = ap leftOver (drop-cons l at 0 h)
 none-left : (l : List ℕ) (at : ℕ) → length l ≤ at → leftOver (drop at l) ≡ false
 none-left l at h = ap leftOver (drop-of-length-le l h)
 
-module _ (s : Settings) (t : List ℕ) where
-  -- the buckets are read, and what is found there gives the answer
-  found-stop : (p : Parsed (List ℕ)) (n : ℕ) → stop n ≡ endOf p → toldRead (refused n) t ≡ readOut t (andThen p (afterBuckets s))
-  found-stop (stop m) n e = ap (λ (x : ℕ). toldRead (refused x) t) (let q : n ≡ m = cc in q)
-  found-stop (next c end) n e = absurd (let z : _≡_ {A = ℕ} 0 1 = cc in omega arith)
+module _ (s : Settings) (t rest : List ℕ) where
+  abbrev cells : Parsed (List ℕ)
+  cells = readBuckets (s .width) (s .buckets) rest
 
-  found-end : (p : Parsed (List ℕ)) (rest : List ℕ) → next tt rest ≡ endOf p → andThen p (afterBuckets s) ≡ afterBuckets s (cellsOf p) rest
-  found-end (stop m) rest e = absurd (let z : _≡_ {A = ℕ} 0 1 = cc in omega arith)
-  found-end (next c end) rest e = ap (afterBuckets s c) (let q : end ≡ rest = cc in q)
+  abbrev ends : Parsed (Done Settings (List ℕ)) → Outcome Settings (List ℕ)
+  ends p = keeping t (answerOf p)
 
-  module _ (rest : List ℕ) where
-    pub body-refused : (n : ℕ) → n ≡ numberOf (clearRefusal s t) → n ≢ 0 → toldRead (refused n) t ≡ readOut t (afterHeader t s rest)
+  pub body-refused : (n : ℕ) → n ≡ numberOf (firstMet (tableChecks s t)) → n ≢ 0 → outcome (refused n) t ≡ ends (afterHeader t s rest)
+  unfolding afterHeader
+  body-refused n e h = sym (ap (λ (o : Option ℕ). ends (checked o (andThen cells (afterBuckets s)))) (number-met (tableChecks s t) e h))
+
+  module _ (S : Sound s t) where
+    -- the buckets are read, and what is found there gives the answer
+    found : (p : Parsed (List ℕ)) → cells ≡ p → andThen p (afterBuckets s) ≡ afterHeader t s rest
     unfolding afterHeader
-    body-refused n e h =
-        sym (ap (λ (o : Option ℕ). readOut t (checked o (andThen (readBuckets (s .width) (s .buckets) rest) (afterBuckets s)))) (clear-number s t n e h))
+    found p e = ap (λ (q : Parsed (List ℕ)). andThen q (afterBuckets s)) (sym e) ∙ sym (ap (λ (o : Option ℕ). checked o (andThen cells (afterBuckets s))) (table-check-laws s t .passes S))
 
-    module _ (z : numberOf (clearRefusal s t) ≡ 0) where
-      passing : andThen (readBuckets (s .width) (s .buckets) rest) (afterBuckets s) ≡ afterHeader t s rest
-      unfolding afterHeader
-      passing = sym (ap (λ (o : Option ℕ). checked o (andThen (readBuckets (s .width) (s .buckets) rest) (afterBuckets s))) (clear-passes s t z))
+    pub body-stops : (n : ℕ) → stop n ≡ endOf cells → outcome (refused n) t ≡ ends (afterHeader t s rest)
+    body-stops n e = go cells refl e
+      where
+        go : (p : Parsed (List ℕ)) → cells ≡ p → stop n ≡ endOf p → outcome (refused n) t ≡ ends (afterHeader t s rest)
+        go (stop m) q f = ap (λ (x : ℕ). outcome (refused x) t) (let k : n ≡ m = cc in k) ∙ ap ends (found (stop m) q)
+        go (next c end) q f = absurd (let z : _≡_ {A = ℕ} 0 1 = cc in omega arith)
 
-      pub body-stops : (n : ℕ) → stop n ≡ endOf (readBuckets (s .width) (s .buckets) rest) → toldRead (refused n) t ≡ readOut t (afterHeader t s rest)
-      body-stops n e = found-stop (readBuckets (s .width) (s .buckets) rest) n e ∙ ap (readOut t) passing
+    module _ (l : List ℕ) (end : ℕ) (e : next tt (drop end l) ≡ endOf cells) where
+      ended : (b : Bool) → leftOver (drop end l) ≡ b → ends (refuseIf b 15 (next (done s (cellsRead cells)) (drop end l))) ≡ ends (afterHeader t s rest)
+      unfolding afterBuckets
+      ended b k = go cells refl e
+        where
+          go : (p : Parsed (List ℕ)) → cells ≡ p → next tt (drop end l) ≡ endOf p → ends (refuseIf b 15 (next (done s (cellsRead p)) (drop end l))) ≡ ends (afterHeader t s rest)
+          go (stop m) q f = absurd (let z : _≡_ {A = ℕ} 0 1 = cc in omega arith)
+          go (next c r) q f =
+              let same : drop end l ≡ r = cc in
+              ap (λ (x : Bool). ends (refuseIf x 15 (next (done s c) (drop end l)))) (sym k)
+              ∙ ap (λ (x : List ℕ). ends (afterBuckets s c x)) same
+              ∙ ap ends (found (next c r) q)
 
-      module _ (l : List ℕ) (end : ℕ) (e : next tt (drop end l) ≡ endOf (readBuckets (s .width) (s .buckets) rest)) where
-        ended : afterBuckets s (cellsOf (readBuckets (s .width) (s .buckets) rest)) (drop end l) ≡ afterHeader t s rest
-        ended = sym (found-end (readBuckets (s .width) (s .buckets) rest) (drop end l) e) ∙ passing
+      pub body-left : end < length l → outcome (refused 15) t ≡ ends (afterHeader t s rest)
+      body-left h = ended true (some-left l end h)
 
-        pub body-left : end < length l → toldRead (refused 15) t ≡ readOut t (afterHeader t s rest)
-        unfolding afterBuckets
-        body-left h =
-            sym (ap (λ (b : Bool). readOut t (refuseIf b 15 (next (toldRead (given s) (cellsOf (readBuckets (s .width) (s .buckets) rest))) (drop end l)))) (some-left l end h))
-            ∙ ap (readOut t) ended
-
-        pub body-given : length l ≤ end → (c : List ℕ) → c ≡ cellsOf (readBuckets (s .width) (s .buckets) rest) → toldRead (given s) c ≡ readOut t (afterHeader t s rest)
-        unfolding afterBuckets
-        body-given h c q =
-            ap (toldRead (given s)) q
-            ∙ sym (ap (λ (b : Bool). readOut t (refuseIf b 15 (next (toldRead (given s) (cellsOf (readBuckets (s .width) (s .buckets) rest))) (drop end l)))) (none-left l end h))
-            ∙ ap (readOut t) ended
-
--- ── the header, one field after the other ──
-module _ (m : ℕ) where
-  abbrev pub afterMask : ℕ → ℕ → ℕ → ℕ → List ℕ → Parsed Settings
-  afterMask rule width less mask rest = refuseIf (misfit m (settingsOf rule width less mask)) 12 (next (settingsOf rule width less mask) rest)
-
-  abbrev pub afterLess : ℕ → ℕ → ℕ → List ℕ → Parsed Settings
-  afterLess rule width less rest = andThen (field (bit3 m) 0 takePair rest) (afterMask rule width less)
-
-  abbrev pub afterWidth : ℕ → ℕ → List ℕ → Parsed Settings
-  afterWidth rule width rest = andThen (field (bit2 m) 4095 takePair rest) (afterLess rule width)
-
-  abbrev pub afterRule : ℕ → List ℕ → Parsed Settings
-  afterRule rule rest = andThen (field (bit1 m) 12 takeByte rest) (afterWidth rule)
-
-  abbrev pub allFields : List ℕ → Parsed Settings
-  allFields rest = andThen (field (bit0 m) 0 takeByte rest) afterRule
-
-  abbrev pub afterMap : List ℕ → Parsed Settings
-  afterMap rest = refuseIf (leb 16 m) 12 (allFields rest)
-
-pub header-opened : (l : List ℕ) → readHeader l ≡ andThen (takeByte l) afterMap
-unfolding readHeader readFields
-header-opened l = refl
-
-pub settings-same : {a b c d e f g h : ℕ} → a ≡ e → b ≡ f → c ≡ g → d ≡ h → settingsOf a b c d ≡ settingsOf e f g h
-settings-same p q r s = rw (p, q, r, s) refl
+      pub body-given : length l ≤ end → (c : List ℕ) → c ≡ cellsRead cells → outcome (given s) c ≡ ends (afterHeader t s rest)
+      body-given h c q = ap (outcome (given s)) q ∙ ended false (none-left l end h)
 
 -- ── the whole: the header, and what stands behind it ──
-pub file-read : (l t : List ℕ) (h : Parsed Settings) {r : ReadOut} → h ≡ readHeader l → r ≡ readOut t (andThen h (afterHeader t)) → r ≡ readFile l t
-unfolding readFile readAll afterHeader afterBuckets
-file-read l t h e q = q ∙ ap (λ (p : Parsed Settings). readOut t (andThen p (afterHeader t))) e
+pub file-read : (l t : List ℕ) (h : Parsed Settings) {r : Outcome Settings (List ℕ)} → h ≡ readHeader l → r ≡ keeping t (answerOf (andThen h (afterHeader t))) → r ≡ readFile l t
+unfolding readFile readAll
+file-read l t h e q = q ∙ ap (λ (p : Parsed Settings). keeping t (answerOf (andThen p (afterHeader t)))) e

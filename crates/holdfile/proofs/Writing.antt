@@ -1,27 +1,27 @@
 -- The writer's steps: bytes stored one after the other, and the sizes that the first pass adds up.
 -- Assumes nothing.
 use mathlib.Core.Path.{_≡_, refl, sym, ap, ap₂, _∙_}
-use mathlib.Core.Logic.{_≢_}
-use mathlib.Core.Option.{Option, some}
 use mathlib.Core.Bool.{Bool, true, false, cond, _||_}
-use mathlib.Core.List.{List, [], _∷_, _++_, append-assoc, append-nil}
-use Prim.Native.Nat.{ℕ, zero, suc, _+_, _*_, _-_, _^_, _%_, _≤_, _<_}
+use mathlib.Core.List.{List, [], _∷_, _++_}
+use Prim.Native.Nat.{ℕ, zero, suc, _+_, _*_, _-_, _^_, _≤_, _<_}
 use native.Mathlib.Numerals.{add-one}
 use native.Mathlib.Omega.{arith}
-use borrow.Author.Tests.{eqb-true, le-leb, leb-true, leb-false}
+use borrow.Author.Tests.{le-leb, leb-true, leb-false}
 use lib.Dec.{leb}
 use lib.ListN.{length, drop, getD, set, length-append, drop-of-length-le}
 use lib.Seq.{sets, sets-eq, length-sets, drop-cons}
-use Rattle.index.specs.Checks.{numberOf, refused, given}
+use Rattle.refusals.specs.Outcomes.{refused, given, outcome}
 use Rattle.index.specs.declared.Settings.{Settings}
-use Rattle.index.proofs.Good.{Good, good}
-use Rattle.table.specs.Calls.{clearRefusal}
-use Rattle.holdfile.specs.Bytes.{pair, nibble, where?}
-use Rattle.table.specs.Writing.{anyFrom, writeRefusal, written}
-use Rattle.holdfile.specs.Writer.{hasRule, hasWidth, hasBuckets, hasMask, header, filled, bucketBytes, body, fileOf, writeFile}
-use Rattle.holdfile.specs.Parts.{Put, largerOf, bodySize, bucketFrom, toldWritten}
-use Rattle.holdfile.proofs.Parses.{cellBytes}
-use Rattle.holdfile.proofs.Refusals.{clear-settings, clear-long, clear-passes, clear-number, write-refused, write-wide, write-short, write-passes}
+use Rattle.index.proofs.Laws.{laws}
+use Rattle.calls.specs.Calls.{Sound}
+use Rattle.file_form.specs.Bytes.{where?}
+use Rattle.file_form.specs.Fields.{fieldBytes}
+use Rattle.file_form.specs.Header.{sizes, valuesOf, mapOf}
+use Rattle.calls.specs.WrittenForms.{anyFrom}
+use Rattle.file_form.specs.Writer.{header, filled, bucketBytes, body, fileOf, writeFile}
+use Rattle.holdfile.specs.Internal.{Put, largerOf, bucketBytesAt}
+use Rattle.file_form.proofs.Laws.{header-laws}
+use Rattle.file_form.proofs.Laws.{write-short, write-given}
 
 -- ── bytes stored one after the other ──
 pub sets-append : (l : List ℕ) (i : ℕ) (a b : List ℕ) → sets l i (a ++ b) ≡ sets (sets l i a) (i + length a) b
@@ -43,11 +43,6 @@ put-then {o} {e} {f} {at} {q} {r} {a} {b} k m = record {
 
 pub put-length : {o e : List ℕ} {at q : ℕ} {a : List ℕ} → Put o e at a q → length e ≡ length o
 put-length {o} {e} {at} {q} {a} k = ap length (k .output) ∙ length-sets o at a
-
--- room for the next part, where there is room for all
-pub room-left : {o e : List ℕ} {at r : ℕ} {a : List ℕ} → Put o e at a r → (x rest all : List ℕ) → all ≡ a ++ x ++ rest → at + length all ≤ length o → r + length x ≤ length e
-room-left {o} {e} {at} {r} {a} k x rest all s h =
-    omega (arith, k .place, put-length k, ap length s, length-append (a ++ x) rest, length-append a x)
 
 -- a part that is there, and one that is left out
 pub put-part : {o e : List ℕ} {at r : ℕ} (l : List ℕ) (t : Bool) → t ≡ true → Put o e at l r → Put o e at (where? t l) r
@@ -74,82 +69,22 @@ part-stands false l e = absurd (let z : _≡_ {A = ℕ} 0 1 = cc in omega arith)
 pub room-for : (l : List ℕ) (t : Bool) (at room : ℕ) → t ≡ true → at + length (where? t l) ≤ room → at + length l ≤ room
 room-for l t at room e h = omega (arith, part-stands t l e)
 
-pub header-length : (s : Settings) → length (header s) ≡ 1 + cond (hasRule s) 1 0 + cond (hasWidth s) 1 0 + cond (hasBuckets s) 2 0 + cond (hasMask s) 2 0
+-- the map, and the fields behind it
+pub header-parts : (s : Settings) (ns : List ℕ) (b m : ℕ) (vs : List ℕ) → ns ≡ sizes → b ≡ mapOf s → m ≡ b → vs ≡ valuesOf s → header s ≡ (b ∷ []) ++ fieldBytes ns m vs
 unfolding header
-header-length s = simp (length-append, part-length) (omega arith)
-
--- the header's bytes in the order in which they are stored
-module _ (s : Settings) where
-  abbrev pub mapOf : List ℕ
-  mapOf = nibble (hasRule s) (hasWidth s) (hasBuckets s) (hasMask s) ∷ []
-
-  abbrev pub ruleOf : List ℕ
-  ruleOf = where? (hasRule s) (s .rule ∷ [])
-
-  abbrev pub widthOf : List ℕ
-  widthOf = where? (hasWidth s) (s .width ∷ [])
-
-  abbrev pub bucketsOf : List ℕ
-  bucketsOf = where? (hasBuckets s) (pair (s .buckets - 1))
-
-  abbrev pub maskOf : List ℕ
-  maskOf = where? (hasMask s) (pair (s .mask))
-
-  pub header-0 : header s ≡ mapOf ++ ruleOf ++ (widthOf ++ (bucketsOf ++ maskOf))
-  unfolding header
-  header-0 = simp append-assoc
-
-  pub header-1 : header s ≡ mapOf ++ ruleOf ++ widthOf ++ (bucketsOf ++ maskOf)
-  unfolding header
-  header-1 = simp append-assoc
-
-  pub header-2 : header s ≡ mapOf ++ ruleOf ++ widthOf ++ bucketsOf ++ maskOf
-  unfolding header
-  header-2 = refl
-
-  pub header-3 : header s ≡ mapOf ++ ruleOf ++ widthOf ++ bucketsOf ++ maskOf ++ []
-  header-3 = header-2 ∙ sym (append-nil (mapOf ++ ruleOf ++ widthOf ++ bucketsOf ++ maskOf))
-
-  -- a mask that is stored fits its two bytes
-  pub mask-bytes : Good s → where? (hasMask s) (pair (s .mask % 65536)) ≡ maskOf
-  mask-bytes G = go (hasMask s) refl
-    where
-      go : (t : Bool) → hasMask s ≡ t → where? t (pair (s .mask % 65536)) ≡ where? t (pair (s .mask))
-      go false e = refl
-      go true e =
-          let two : s .rule ≡ 2 = eqb-true (s .rule) 2 e in
-          let low : s .mask < s .buckets = G .mask (λ z. omega arith) (λ z. omega arith) in
-          let small : s .mask % 65536 ≡ s .mask = omega (arith, G .few-buckets) in
-          ap pair small
+header-parts s ns b m vs e f g h = rw (e, g, f, h) refl
 
 -- the bytes of the fingerprints
-pub sizes : List ℕ → ℕ
-sizes [] = 0
-sizes (v ∷ l) = cond (filled v) 2 0 + sizes l
+pub printSizes : List ℕ → ℕ
+printSizes [] = 0
+printSizes (v ∷ l) = cond (filled v) 2 0 + printSizes l
 
 bucket-length : (a b c d : ℕ) → length (bucketBytes a b c d) ≡ 1 + cond (filled a) 2 0 + cond (filled b) 2 0 + cond (filled c) 2 0 + cond (filled d) 2 0
 bucket-length a b c d = simp (length-append, part-length) (omega arith)
 
--- a bucket's bytes in the order in which they are stored
-module _ (a b c d : ℕ) where
-  abbrev pub marks : List ℕ
-  marks = nibble (filled a) (filled b) (filled c) (filled d) ∷ []
-
-  pub bucket-0 : bucketBytes a b c d ≡ marks ++ cellBytes a ++ (cellBytes b ++ (cellBytes c ++ cellBytes d))
-  bucket-0 = simp (append-assoc, append-nil)
-
-  pub bucket-1 : bucketBytes a b c d ≡ marks ++ cellBytes a ++ cellBytes b ++ (cellBytes c ++ cellBytes d)
-  bucket-1 = simp (append-assoc, append-nil)
-
-  pub bucket-2 : bucketBytes a b c d ≡ marks ++ cellBytes a ++ cellBytes b ++ cellBytes c ++ cellBytes d
-  bucket-2 = simp (append-assoc, append-nil)
-
-  pub bucket-3 : bucketBytes a b c d ≡ marks ++ cellBytes a ++ cellBytes b ++ cellBytes c ++ cellBytes d ++ []
-  bucket-3 = bucket-2 ∙ sym (append-nil (marks ++ cellBytes a ++ cellBytes b ++ cellBytes c ++ cellBytes d))
-
 -- a byte for each bucket besides
-pub body-length : (m : ℕ) (c : List ℕ) → length c ≡ 4 * m → length (body c) ≡ m + sizes c
-unfolding body sizes
+pub body-length : (m : ℕ) (c : List ℕ) → length c ≡ 4 * m → length (body c) ≡ m + printSizes c
+unfolding body printSizes
 body-length zero [] e = refl
 body-length zero (a ∷ l) e = absurd (omega arith)
 body-length (suc m) [] e = absurd (omega arith)
@@ -171,7 +106,7 @@ drop-four c i h =
     ∙ ap (λ (r : List ℕ). getD c (suc i) 0 ∷ r) (drop-cons c (suc (suc i)) 0 (omega arith)
     ∙ ap (λ (r : List ℕ). getD c (suc (suc i)) 0 ∷ r) (drop-cons c (suc (suc (suc i))) 0 (omega arith)))))
 
-pub body-step : (c : List ℕ) (i : ℕ) → i + 4 ≤ length c → body (drop i c) ≡ bucketFrom c i ++ body (drop (i + 4) c)
+pub body-step : (c : List ℕ) (i : ℕ) → i + 4 ≤ length c → body (drop i c) ≡ bucketBytesAt c i ++ body (drop (i + 4) c)
 unfolding body
 body-step c i h = ap body (drop-four c i h)
 
@@ -179,12 +114,39 @@ pub body-end : (c : List ℕ) (i : ℕ) → length c ≤ i → body (drop i c) �
 unfolding body
 body-end c i h = ap body (drop-of-length-le c h)
 
--- a bucket more, and the rest from there
-pub put-turn : {o e : List ℕ} {at r : ℕ} {a : List ℕ} → Put o e at a r → (rest all : List ℕ) → all ≡ a ++ rest → (sets e r rest ≡ sets o at all) × (r + length rest ≡ at + length all)
-put-turn {o} {e} {at} {r} {a} k rest all s = (
-  ap₂ (λ (l : List ℕ) (n : ℕ). sets l n rest) (k .output) (k .place) ∙ sym (sets-append o at a rest) ∙ ap (sets o at) (sym s),
-  omega (arith, k .place, ap length s, length-append a rest),
-)
+-- what is left to store of a whole
+pub record Left (o e : List ℕ) (from at : ℕ) (all rest : List ℕ) : Type 0 where
+  pub output : sets e at rest ≡ sets o from all
+  pub place : at + length rest ≡ from + length all
+  pub long : length e ≡ length o
+
+pub left-all : (o : List ℕ) (from : ℕ) (all : List ℕ) → Left o o from from all all
+left-all o from all = record { output = refl; place = refl; long = refl }
+
+module _ {o e : List ℕ} {from at : ℕ} {all rest : List ℕ} (k : Left o e from at all rest) where
+  pub left-room : (a more : List ℕ) → rest ≡ a ++ more → from + length all ≤ length o → at + length a ≤ length e
+  left-room a more s h = omega (arith, k .place, k .long, ap length s, length-append a more)
+
+  -- a part more, and the rest from there
+  pub left-turn : {f a : List ℕ} {r : ℕ} (more : List ℕ) → Put e f at a r → rest ≡ a ++ more → Left o f from r all more
+  left-turn {f} {a} {r} more p s = record {
+    output = ap₂ (λ (l : List ℕ) (n : ℕ). sets l n more) (p .output) (p .place) ∙ sym (sets-append e at a more) ∙ ap (sets e at) (sym s) ∙ k .output;
+    place = omega (arith, p .place, k .place, ap length s, length-append a more);
+    long = put-length p ∙ k .long;
+  }
+
+  -- the last part
+  pub left-fits : from + length all ≤ length o → at + length rest ≤ length e
+  left-fits h = omega (arith, k .place, k .long)
+
+  pub left-last : {f : List ℕ} {r : ℕ} → Put e f at rest r → Put o f from all r
+  left-last p = record {
+    output = p .output ∙ k .output;
+    place = p .place ∙ k .place;
+  }
+
+  pub left-none : rest ≡ [] → Put o e from all at
+  left-none s = record { output = sym (ap (sets e at) s) ∙ k .output; place = omega (arith, k .place, ap length s) }
 
 -- a larger of two is as wide as either
 or-left : (s t : Bool) → (t ≡ true → s ≡ true) → s ≡ (s || t)
@@ -208,13 +170,13 @@ larger-wide n a b = go (leb a b) refl
     go false e = or-left (leb n a) (leb n b) (λ k. le-leb n a (omega (arith, leb-true n b k, leb-false a b e)))
 
 module _ (c : List ℕ) (i : ℕ) where
-  pub sizes-step : i < length c → sizes (drop i c) ≡ cond (filled (getD c i 0)) 2 0 + sizes (drop (i + 1) c)
-  unfolding sizes
+  pub sizes-step : i < length c → printSizes (drop i c) ≡ cond (filled (getD c i 0)) 2 0 + printSizes (drop (i + 1) c)
+  unfolding printSizes
   sizes-step h = rw (add-one, drop-cons c i 0) refl
 
-  pub sizes-end : length c ≤ i → sizes (drop i c) ≡ 0
-  unfolding sizes
-  sizes-end h = ap sizes (drop-of-length-le c h)
+  pub sizes-end : length c ≤ i → printSizes (drop i c) ≡ 0
+  unfolding printSizes
+  sizes-end h = ap printSizes (drop-of-length-le c h)
 
   module _ (n : ℕ) where
     any-step : i < length c → anyFrom n (drop i c) ≡ (leb n (getD c i 0) || anyFrom n (drop (i + 1) c))
@@ -232,74 +194,36 @@ module _ (c : List ℕ) (i : ℕ) where
     pub any-end : length c ≤ i → anyFrom n (drop i c) ≡ false
     any-end h = ap (anyFrom n) (drop-of-length-le c h)
 
-pub size-wide : (w : ℕ) (c : List ℕ) → anyFrom (2 ^ w) c ≡ true → refused 17 ≡ bodySize w c
-unfolding bodySize
-size-wide w c e = sym (ap (λ (t : Bool). cond t (refused 17) (given (length (body c)))) e)
-
-pub size-given : (w : ℕ) (c : List ℕ) (n : ℕ) → anyFrom (2 ^ w) c ≡ false → n ≡ length (body c) → given n ≡ bodySize w c
-unfolding bodySize
-size-given w c n e h = ap given h ∙ sym (ap (λ (t : Bool). cond t (refused 17) (given (length (body c)))) e)
-
 -- ── what the call answers ──
-sized : (w : ℕ) (c : List ℕ) (t : Bool) (n : ℕ) → given n ≡ cond t (refused 17) (given (length (body c))) → (t ≡ false) × (n ≡ length (body c))
-sized w c true n e = absurd (let z : _≡_ {A = ℕ} 0 1 = cc in omega arith)
-sized w c false n e = (refl, cc)
-
-too-wide : (c : List ℕ) (t : Bool) → refused 17 ≡ cond t (refused 17) (given (length (body c))) → t ≡ true
-too-wide c true e = refl
-too-wide c false e = absurd (let z : _≡_ {A = ℕ} 0 1 = cc in omega arith)
-
-pub size-passed : (w : ℕ) (c : List ℕ) (n : ℕ) → given n ≡ bodySize w c → (anyFrom (2 ^ w) c ≡ false) × (n ≡ length (body c))
-unfolding bodySize
-size-passed w c n e = sized w c (anyFrom (2 ^ w) c) n e
-
-pub size-refused : (w : ℕ) (c : List ℕ) → refused 17 ≡ bodySize w c → anyFrom (2 ^ w) c ≡ true
-unfolding bodySize
-size-refused w c e = too-wide c (anyFrom (2 ^ w) c) e
-
 pub file-length : (s : Settings) (c : List ℕ) → length (fileOf s c) ≡ length (header s) + length (body c)
 unfolding fileOf
 file-length s c = length-append (header s) (body c)
 
-header-le : (s : Settings) → length (header s) ≤ 7
-header-le s = omega (arith, header-length s, cond-le (hasRule s) 1, cond-le (hasWidth s) 1, cond-le (hasBuckets s) 2, cond-le (hasMask s) 2)
-
-sizes-le : (c : List ℕ) → sizes c ≤ 2 * length c
-unfolding sizes
+sizes-le : (c : List ℕ) → printSizes c ≤ 2 * length c
+unfolding printSizes
 sizes-le [] = omega arith
 sizes-le (v ∷ l) = omega (arith, cond-le (filled v) 2, sizes-le l)
 
--- the byte count is far below 2^64
-pub needed-fits : (s : Settings) (c : List ℕ) → numberOf (clearRefusal s c) ≡ 0 → length (header s) + length (body c) ≤ 1000000
-needed-fits s c z = omega (arith, header-le s, sizes-le c, body-length (s .buckets) c (clear-long s c z), clear-long s c z, good s (clear-settings s c z) .few-buckets)
+module _ (s : Settings) (c : List ℕ) (S : Sound s c) where
+  -- the byte count is far below 2^64
+  pub needed-fits : length (header s) + length (body c) ≤ 1000000
+  needed-fits = omega (arith, header-laws .most s, sizes-le c, body-length (s .buckets) c (S .size), S .size, laws s (S .settings) .few-buckets)
 
-module _ (s : Settings) (c out : List ℕ) where
-  answer-some : (n : ℕ) → writeRefusal s c (length out) (length (fileOf s c)) ≡ some n → toldWritten (refused n) out ≡ writeFile s c out
-  unfolding writeFile
-  answer-some n e = sym (ap (λ (o : Option ℕ). written o (fileOf s c) out) e)
+  module _ (out : List ℕ) (fits : anyFrom (2 ^ s .width) c ≡ false) (needed : ℕ) (l : needed ≡ length (header s) + length (body c)) where
+    needed-is : needed ≡ length (fileOf s c)
+    needed-is = omega (arith, file-length s c)
 
-  pub answer-number : (n : ℕ) → n ≡ numberOf (clearRefusal s c) → n ≢ 0 → toldWritten (refused n) out ≡ writeFile s c out
-  answer-number n e h = answer-some n (write-refused s c (length out) n (clear-number s c n e h))
+    pub answer-16 : length out < needed → outcome (refused 16) out ≡ writeFile s c out
+    unfolding writeFile
+    answer-16 h = write-short s c (fileOf s c) out S fits (omega (arith, needed-is))
 
-  module _ (z : numberOf (clearRefusal s c) ≡ 0) where
-    pub answer-17 : refused 17 ≡ bodySize (s .width) c → toldWritten (refused 17) out ≡ writeFile s c out
-    answer-17 e = answer-some 17 (write-wide s c (length out) (clear-passes s c z) (size-refused (s .width) c e))
-
-    module _ (n : ℕ) (e : given n ≡ bodySize (s .width) c) (needed : ℕ) (l : needed ≡ length (header s) + n) where
-      needed-is : needed ≡ length (fileOf s c)
-      needed-is = omega (arith, size-passed (s .width) c n e .1, file-length s c)
-
-      pub answer-16 : length out < needed → toldWritten (refused 16) out ≡ writeFile s c out
-      answer-16 h = answer-some 16 (write-short s c (length out) (clear-passes s c z) (size-passed (s .width) c n e .0) (omega (arith, needed-is)))
-
-      -- the header from 0 on, and the buckets behind it
-      pub answer-written : needed ≤ length out → (mid after : List ℕ) (at : ℕ) → Put out mid 0 (header s) at → after ≡ sets mid at (body c) → toldWritten (given needed) after ≡ writeFile s c out
-      unfolding writeFile fileOf
-      answer-written h mid after at k b =
-          let room : 0 + length (header s ++ body c) ≤ length out = omega (arith, length-append (header s) (body c), size-passed (s .width) c n e .1) in
-          let stored : after ≡ sets out 0 (header s ++ body c) = b ∙ ap₂ (λ (x : List ℕ) (y : ℕ). sets x y (body c)) (k .output) (k .place) ∙ sym (sets-append out 0 (header s) (body c)) in
-          let zero-add : 0 + length (header s ++ body c) ≡ length (header s ++ body c) = omega arith in
-          let whole : after ≡ (header s ++ body c) ++ drop (length (header s ++ body c)) out =
-          stored ∙ sets-eq (header s ++ body c) out 0 room ∙ ap (λ (x : ℕ). (header s ++ body c) ++ drop x out) zero-add in
-          ap₂ (λ (x : ℕ) (y : List ℕ). toldWritten (given x) y) needed-is whole
-          ∙ sym (ap (λ (o : Option ℕ). written o (header s ++ body c) out) (write-passes s c (length out) (clear-passes s c z) (size-passed (s .width) c n e .0) (omega (arith, needed-is))))
+    -- the header from 0 on, and the buckets behind it
+    pub answer-written : needed ≤ length out → (mid after : List ℕ) (at : ℕ) → Put out mid 0 (header s) at → after ≡ sets mid at (body c) → outcome (given needed) after ≡ writeFile s c out
+    unfolding writeFile fileOf
+    answer-written h mid after at k b =
+        let room : 0 + length (header s ++ body c) ≤ length out = omega (arith, length-append (header s) (body c)) in
+        let stored : after ≡ sets out 0 (header s ++ body c) = b ∙ ap₂ (λ (x : List ℕ) (y : ℕ). sets x y (body c)) (k .output) (k .place) ∙ sym (sets-append out 0 (header s) (body c)) in
+        let zero-add : 0 + length (header s ++ body c) ≡ length (header s ++ body c) = omega arith in
+        let whole : after ≡ (header s ++ body c) ++ drop (length (header s ++ body c)) out =
+        stored ∙ sets-eq (header s ++ body c) out 0 room ∙ ap (λ (x : ℕ). (header s ++ body c) ++ drop x out) zero-add in
+        ap₂ (λ (x : ℕ) (y : List ℕ). outcome (given x) y) needed-is whole ∙ write-given s c (header s ++ body c) out S fits (omega (arith, needed-is))

@@ -1,7 +1,7 @@
 -- What the calls answer, by the cases of their answers' types.
 -- Assumes nothing.
 use Prim.Native.Nat.{ℕ}
-use Rattle.index.specs.Checks.{Answer, refused, given}
+use Rattle.refusals.specs.Outcomes.{Answer, refused, given}
 use Rattle.index.specs.declared.Settings.{Settings}
 use Rattle.holdfile.specs.declared.WriteAnswer.{WriteAnswer}
 use Rattle.holdfile.specs.declared.ReadAnswer.{ReadAnswer}

@@ -1,7 +1,3 @@
--- What a reader has to believe of the hold file: bytes, the writer, the reader, and that each undoes the other.
-pub mod Bytes
-pub mod Writer
-pub mod Reader
-pub mod RoundTrip
-pub mod Parts
+-- What the calls answer, and the contracts of the functions inside.
+pub mod Internal
 pub mod Answers

@@ -1,21 +1,22 @@
 // The hold file: a table written as bytes, and read back. Numbers of two bytes have the low byte first.
 ghost use mathlib.Core.Path.{_≡_};
 ghost use mathlib.Core.Bool.{cond, _&&_, _||_};
-ghost use mathlib.Core.Option.{none};
 ghost use mathlib.Core.List.{[], _∷_};
 ghost use Prim.Native.Nat.{_+_, _*_, _%_, _^_, _<_, _≤_};
 ghost use lib.Dec.{eqb, leb};
 ghost use lib.ListN.{length, drop};
 ghost use lib.Seq.{sets};
-ghost use Rattle.index.specs.Checks.{numberOf};
-ghost use Rattle.index.specs.Settings.{settingsRefusal};
-ghost use Rattle.table.specs.Calls.{clearRefusal};
-ghost use Rattle.holdfile.specs.Bytes.{pair, nibble as nibbleOf, one as oneOf, where?};
-ghost use Rattle.holdfile.specs.Writer.{header, body, writeFile};
-ghost use Rattle.holdfile.specs.Reader.{takeByte, takePair, field, misfit as misfitOf, readHeader, readBucket, readBuckets, readOut, readFile, headerAnswer};
+ghost use Rattle.file_form.specs.Bytes.{pair, nibble as nibbleOf, one as oneOf, where?};
+ghost use Rattle.refusals.specs.Outcomes.{outcome, keeping};
+ghost use Rattle.file_form.specs.Parsed.{next, answerOf};
+ghost use Rattle.file_form.specs.Fields.{field};
+ghost use Rattle.file_form.specs.Writer.{body, writeFile};
+ghost use Rattle.file_form.specs.Reader.{takeByte, takePair, readBucket, readBuckets, afterHeader, readFile, headerAnswer};
 ghost use Rattle.holdfile.specs.Answers.{writeIs, readIs};
-ghost use Rattle.holdfile.specs.Parts.{fieldIs, headerIs, PrintAt, FullAt, largerOf, passIs, endOf, Passed, cellsOf, CellStored, Stored, afterHeader, Put, sizeIs, bodySize, bucketFrom};
+ghost use Rattle.holdfile.specs.Internal.{fieldIs, PrintAt, FullAt, largerOf, passIs, endOf, GivesCells, cellsRead, CellStored, Put, Sized, bucketBytesAt};
 use index::Settings;
+
+mod header;
 
 // The byte count, or the number of the refusal.
 pub enum WriteAnswer {
@@ -35,14 +36,20 @@ enum Size {
     TooWide,
 }
 
-// A field's value and the place after it.
+// A number of one or two bytes, and the place after it.
 enum Field {
     Value(u16, usize),
     Short,
 }
 
+// A field of the header, and the place after it.
+enum Number {
+    Value(u64, usize),
+    Short,
+}
+
 // The settings that a header names and the place after it, or the number of the refusal.
-enum Header {
+enum HeaderRead {
     Fields(Settings, usize),
     Refused(u32),
 }
@@ -52,15 +59,6 @@ enum Pass {
     End(usize),
     Refused(u32),
 }
-
-// What a field that is left out stands for, as the file has it.
-const RULE: u16 = Settings::RULE as u16;
-
-const WIDTH: u16 = Settings::WIDTH as u16;
-
-const LESS: u16 = (Settings::BUCKETS - 1) as u16;
-
-const MASK: u16 = Settings::MASK as u16;
 
 fn wide(x: u16) -> u32
     ensures { λ r. ⌜ r ≡ x ⌝ }
@@ -90,19 +88,6 @@ fn part_size(stands: bool, n: usize) -> usize
     if stands { n } else { 0 }
 }
 
-fn header_size(s: Settings) -> usize
-    ensures { λ r. ⌜ r ≡ length (header s) ⌝ }
-{
-    let rule = s.rule;
-    let width = s.width;
-    let buckets = s.buckets;
-    1
-        + part_size(rule != Settings::RULE, 1)
-        + part_size(width != Settings::WIDTH, 1)
-        + part_size(buckets != Settings::BUCKETS, 2)
-        + part_size(rule == 2, 2)
-}
-
 // The larger of two cells.
 fn larger(a: u16, b: u16) -> u16
     ensures { λ r. ⌜ r ≡ largerOf a b ⌝ }
@@ -114,7 +99,7 @@ fn larger(a: u16, b: u16) -> u16
 // end: a loop that may stop at each cell is far slower.
 fn body_size(table: &[u16], width: u32, buckets: usize) -> Size
     requires { ⌜ (width ≤ 16) × (length (now table) ≡ 4 * buckets) ⌝ }
-    ensures { λ r. ⌜ sizeIs r ≡ bodySize width (now (table .entry)) ⌝ }
+    ensures { λ r. ⌜ Sized width (now (table .entry)) r ⌝ }
 {
     let mut top = 0;
     let mut n = buckets;
@@ -141,16 +126,6 @@ fn put_byte(out: &mut [u8], at: usize, v: u8) -> usize
     at + 1
 }
 
-fn put_byte_field(out: &mut [u8], at: usize, stands: bool, v: u8) -> usize
-    requires { ⌜ at + length (where? stands (v ∷ [])) ≤ length (now out) ⌝ }
-    ensures { λ r. ⌜ Put (now (out .entry)) (now (out .exit)) at (where? stands (v ∷ [])) r ⌝ }
-{
-    if stands {
-        return put_byte(out, at, v);
-    }
-    at
-}
-
 fn put_pair_field(out: &mut [u8], at: usize, stands: bool, x: u16) -> usize
     requires { ⌜ at + length (where? stands (pair x)) ≤ length (now out) ⌝ }
     ensures { λ r. ⌜ Put (now (out .entry)) (now (out .exit)) at (where? stands (pair x)) r ⌝ }
@@ -164,34 +139,10 @@ fn put_pair_field(out: &mut [u8], at: usize, stands: bool, x: u16) -> usize
     at
 }
 
-fn put_header(out: &mut [u8], s: Settings) -> usize
-    requires { ⌜ (settingsRefusal s ≡ none) × (length (header s) ≤ length (now out)) ⌝ }
-    ensures { λ r. ⌜ Put (now (out .entry)) (now (out .exit)) 0 (header s) r ⌝ }
-{
-    let rule = s.rule;
-    let width = s.width;
-    let buckets = s.buckets;
-    let mask = s.mask;
-    let has_rule = rule != Settings::RULE;
-    let has_width = width != Settings::WIDTH;
-    let has_buckets = buckets != Settings::BUCKETS;
-    let has_mask = rule == 2;
-    let low_rule = rule as u8;
-    let low_width = width as u8;
-    let less = (buckets - 1) as u16;
-    let low_mask = (mask % 65536) as u16;
-    let map = nibble(has_rule, has_width, has_buckets, has_mask);
-    let at = put_byte(out, 0, map);
-    let at = put_byte_field(out, at, has_rule, low_rule);
-    let at = put_byte_field(out, at, has_width, low_width);
-    let at = put_pair_field(out, at, has_buckets, less);
-    put_pair_field(out, at, has_mask, low_mask)
-}
-
 // The bucket of the four cells from i on.
 fn put_bucket(out: &mut [u8], at: usize, table: &[u16], i: usize) -> usize
-    requires { ⌜ (i + 4 ≤ length (now table)) × (at + length (bucketFrom (now table) i) ≤ length (now out)) ⌝ }
-    ensures { λ r. ⌜ Put (now (out .entry)) (now (out .exit)) at (bucketFrom (now (table .entry)) i) r ⌝ }
+    requires { ⌜ (i + 4 ≤ length (now table)) × (at + length (bucketBytesAt (now table) i) ≤ length (now out)) ⌝ }
+    ensures { λ r. ⌜ Put (now (out .entry)) (now (out .exit)) at (bucketBytesAt (now (table .entry)) i) r ⌝ }
 {
     let a = table[i];
     let b = table[i + 1];
@@ -220,7 +171,7 @@ fn put_body(out: &mut [u8], from: usize, table: &[u16])
 
 // The table as a file. Nothing is written before every check has passed.
 pub fn write(s: Settings, table: &[u16], out: &mut [u8]) -> WriteAnswer
-    ensures { λ r. ⌜ record { answer = writeIs r; output = now (out .exit) } ≡ writeFile s (now (table .entry)) (now (out .entry)) ⌝ }
+    ensures { λ r. ⌜ outcome (writeIs r) (now (out .exit)) ≡ writeFile s (now (table .entry)) (now (out .entry)) ⌝ }
 {
     let n = table::table_refusal(s, table);
     if n != 0 {
@@ -231,11 +182,11 @@ pub fn write(s: Settings, table: &[u16], out: &mut [u8]) -> WriteAnswer
     let Size::Bytes(cells) = body_size(table, width, buckets) else {
         return WriteAnswer::Refused(17);
     };
-    let needed = header_size(s) + cells;
+    let needed = header::header_size(s) + cells;
     if out.len() < needed {
         return WriteAnswer::Refused(16);
     }
-    let at = put_header(out, s);
+    let at = header::put_header(out, s);
     put_body(out, at, table);
     WriteAnswer::Written(needed)
 }
@@ -278,16 +229,7 @@ fn pair_at(bytes: &[u8], at: usize) -> Field
     Field::Short
 }
 
-// A field where its bit stands, else its default, which takes no bytes.
-fn byte_field(bytes: &[u8], at: usize, stands: bool, default: u16) -> Field
-    ensures { λ r. ⌜ fieldIs (now (bytes .entry)) r ≡ field stands default takeByte (drop at (now (bytes .entry))) ⌝ }
-{
-    if stands {
-        return byte_at(bytes, at);
-    }
-    Field::Value(default, at)
-}
-
+// A number of two bytes where its cell is marked, else its default, which takes no bytes.
 fn pair_field(bytes: &[u8], at: usize, stands: bool, default: u16) -> Field
     ensures { λ r. ⌜ fieldIs (now (bytes .entry)) r ≡ field stands default takePair (drop at (now (bytes .entry))) ⌝ }
 {
@@ -434,38 +376,39 @@ fn store_cell(bytes: &[u8], at: usize, stands: bool, table: &mut [u16], i: usize
     at
 }
 
-// One bucket into the cells from i on; the place after it. The first pass has met no refusal, so nothing is checked again:
-// the width only says what has passed.
-fn store_bucket(bytes: &[u8], at: usize, width: u32, table: &mut [u16], i: usize) -> usize
-    requires { ⌜ (width ≤ 16) × (i + 4 ≤ length (now table)) × Passed (readBucket width (drop at (now bytes))) ⌝ }
-    ensures { λ r. ⌜ Stored width (now (bytes .entry)) (now (table .entry)) (now (table .exit)) at i r ⌝ }
+// One bucket into the part that is lent for it, so that no other is in reach; the place after it. The first pass has met no refusal, so
+// nothing is checked again: the width only says what has passed.
+fn store_bucket(bytes: &[u8], at: usize, width: u32, part: &mut [u16]) -> usize
+    requires { ⌜ (width ≤ 16) × (length (now part) ≡ 4) × GivesCells (readBucket width (drop at (now bytes))) ⌝ }
+    ensures { λ r. ⌜ readBucket width (drop at (now (bytes .entry))) ≡ next (now (part .exit)) (drop r (now (bytes .entry))) ⌝ }
 {
     let marks = widen(bytes[at]);
     let at = at + 1;
-    let at = store_cell(bytes, at, marks % 2 == 1, table, i);
-    let at = store_cell(bytes, at, marks / 2 % 2 == 1, table, i + 1);
-    let at = store_cell(bytes, at, marks / 4 % 2 == 1, table, i + 2);
-    store_cell(bytes, at, marks / 8 % 2 == 1, table, i + 3)
+    let at = store_cell(bytes, at, marks % 2 == 1, part, 0);
+    let at = store_cell(bytes, at, marks / 2 % 2 == 1, part, 1);
+    let at = store_cell(bytes, at, marks / 4 % 2 == 1, part, 2);
+    store_cell(bytes, at, marks / 8 % 2 == 1, part, 3)
 }
 
 // The second pass: every bucket into the table.
 fn store_buckets(bytes: &[u8], from: usize, width: u32, count: u32, table: &mut [u16])
-    requires { ⌜ (width ≤ 16) × (length (now table) ≡ 4 * count) × Passed (readBuckets width count (drop from (now bytes))) ⌝ }
-    ensures { λ r. ⌜ now (table .exit) ≡ cellsOf (readBuckets width count (drop from (now (bytes .entry)))) ⌝ }
+    requires { ⌜ (width ≤ 16) × (length (now table) ≡ 4 * count) × GivesCells (readBuckets width count (drop from (now bytes))) ⌝ }
+    ensures { λ r. ⌜ now (table .exit) ≡ cellsRead (readBuckets width count (drop from (now (bytes .entry)))) ⌝ }
 {
     let mut at = from;
     let mut i = 0;
     let mut left = count;
     while left > 0 {
-        at = store_bucket(bytes, at, width, table, i);
-        i += 4;
+        let e = i + 4;
+        at = store_bucket(bytes, at, width, &mut table[i..e]);
+        i = e;
         left -= 1;
     }
 }
 
 // What follows the header, once the fields are known.
 fn read_body(s: Settings, bytes: &[u8], at: usize, table: &mut [u16]) -> ReadAnswer
-    ensures { λ r. ⌜ record { answer = readIs r; cells = now (table .exit) } ≡ readOut (now (table .entry)) (afterHeader (now (table .entry)) s (drop at (now (bytes .entry)))) ⌝ }
+    ensures { λ r. ⌜ outcome (readIs r) (now (table .exit)) ≡ keeping (now (table .entry)) (answerOf (afterHeader (now (table .entry)) s (drop at (now (bytes .entry))))) ⌝ }
 {
     let n = table::table_refusal(s, table);
     if n != 0 {
@@ -485,90 +428,23 @@ fn read_body(s: Settings, bytes: &[u8], at: usize, table: &mut [u16]) -> ReadAns
     }
 }
 
-// A field that stands although it has its default.
-fn needless(stands: bool, x: u32, default: u32) -> bool
-    ensures { λ r. ⌜ r ≡ (stands && eqb x default) ⌝ }
-{
-    if stands {
-        return x == default;
-    }
-    false
-}
-
-// A field that has its default, or a mask's bit that does not fit the rule.
-fn misfit(map: u16, s: Settings) -> bool
-    ensures { λ r. ⌜ r ≡ misfitOf map s ⌝ }
-{
-    let rule = s.rule;
-    let width = s.width;
-    let buckets = s.buckets;
-    if needless(map % 2 == 1, rule, Settings::RULE) {
-        return true;
-    }
-    if needless(map / 2 % 2 == 1, width, Settings::WIDTH) {
-        return true;
-    }
-    if needless(map / 4 % 2 == 1, buckets, Settings::BUCKETS) {
-        return true;
-    }
-    if map / 8 % 2 == 1 {
-        return rule != 2;
-    }
-    rule == 2
-}
-
-// The header: its fields in their order, and that they fit one another.
-fn header_at(bytes: &[u8]) -> Header
-    ensures { λ r. ⌜ headerIs (now (bytes .entry)) r ≡ readHeader (now (bytes .entry)) ⌝ }
-{
-    let Field::Value(map, at) = byte_at(bytes, 0) else {
-        return Header::Refused(11);
-    };
-    if map >= 16 {
-        return Header::Refused(12);
-    }
-    let Field::Value(rule, at) = byte_field(bytes, at, map % 2 == 1, RULE) else {
-        return Header::Refused(11);
-    };
-    let Field::Value(width, at) = byte_field(bytes, at, map / 2 % 2 == 1, WIDTH) else {
-        return Header::Refused(11);
-    };
-    let Field::Value(less, at) = pair_field(bytes, at, map / 4 % 2 == 1, LESS) else {
-        return Header::Refused(11);
-    };
-    let Field::Value(mask, at) = pair_field(bytes, at, map / 8 % 2 == 1, MASK) else {
-        return Header::Refused(11);
-    };
-    let buckets = wide(less) + 1;
-    let s = Settings {
-        rule: wide(rule),
-        width: wide(width),
-        buckets,
-        mask: wide(mask),
-    };
-    if misfit(map, s) {
-        return Header::Refused(12);
-    }
-    Header::Fields(s, at)
-}
-
 // The settings that a file's header names, so that a caller can lend as many cells as the reader asks for. It looks at nothing behind
 // the header, and does not check the settings.
 pub fn settings_of(bytes: &[u8]) -> ReadAnswer
-    ensures { λ r. ⌜ readIs r ≡ headerAnswer (readHeader (now (bytes .entry))) ⌝ }
+    ensures { λ r. ⌜ readIs r ≡ headerAnswer (now (bytes .entry)) ⌝ }
 {
-    match header_at(bytes) {
-        Header::Refused(n) => ReadAnswer::Refused(n),
-        Header::Fields(s, _) => ReadAnswer::Read(s),
+    match header::header_at(bytes) {
+        HeaderRead::Refused(n) => ReadAnswer::Refused(n),
+        HeaderRead::Fields(s, _) => ReadAnswer::Read(s),
     }
 }
 
 // A file's settings, with its cells in the table. The table is written once the whole file has passed.
 pub fn read(bytes: &[u8], table: &mut [u16]) -> ReadAnswer
-    ensures { λ r. ⌜ record { answer = readIs r; cells = now (table .exit) } ≡ readFile (now (bytes .entry)) (now (table .entry)) ⌝ }
+    ensures { λ r. ⌜ outcome (readIs r) (now (table .exit)) ≡ readFile (now (bytes .entry)) (now (table .entry)) ⌝ }
 {
-    match header_at(bytes) {
-        Header::Refused(n) => ReadAnswer::Refused(n),
-        Header::Fields(s, at) => read_body(s, bytes, at, table),
+    match header::header_at(bytes) {
+        HeaderRead::Refused(n) => ReadAnswer::Refused(n),
+        HeaderRead::Fields(s, at) => read_body(s, bytes, at, table),
     }
 }

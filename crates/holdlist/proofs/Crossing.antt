@@ -3,60 +3,42 @@
 use mathlib.Core.Path.{_≡_, refl, sym, ap, _∙_}
 use mathlib.Core.Bool.{Bool, cond}
 use mathlib.Core.Option.{Option, none, some}
-use mathlib.Core.List.{List, _++_}
+use mathlib.Core.List.{List}
 use Prim.Native.Nat.{ℕ, _<_, _^_}
 use native.Mathlib.Omega.{arith}
 use lib.IntN.{ℤ, pos}
 use lib.Signed.{mag}
-use lib.ListN.{take}
+use lib.ListN.{length, take}
 use mir.Syntax.{w64}
 use mir.Val.{toZ, ofZ}
 use mir.Facts.{toZ-ofZ}
 use borrow.Author.Tests.{eq-eqb, ne-eqb}
-use Rattle.index.specs.Checks.{numberOf, firstMet, Answer, refused, given, unless}
-use Rattle.index.specs.Settings.{settingsChecks, settingsRefusal}
-use Rattle.index.specs.Hash.{home, tagChecks}
-use Rattle.index.specs.Answers.{Entry, entryOf, Lists}
+use Rattle.refusals.specs.Checks.{firstMet, numberOf}
+use Rattle.refusals.specs.Outcomes.{Answer, refused, given, unless, Outcome, outcome}
+use Rattle.index.specs.Settings.{settingsRefusal}
+use Rattle.index.specs.Answers.{Lists}
 use Rattle.index.specs.declared.Settings.{Settings}
-use Rattle.index.proofs.Refusals.{entry-answer}
 use Rattle.index.specs.declared.CandidateList.{CandidateList}
-use Rattle.table.specs.Calls.{Reply, Result, result, viewRefusal, viewNumber}
-use Rattle.holdlist.specs.Numbers.{minus, signed, signedReply}
-use Rattle.holdlist.specs.Calls.{settingsAnswer, viewAnswer, fingerprintAnswer, homeAnswer, counted, candidatesOut}
+use Rattle.calls.specs.Calls.{viewChecks, viewNumber}
+use Rattle.holdlist.specs.Numbers.{minus, signed, itself}
+use Rattle.holdlist.specs.Calls.{settingsAnswer, viewAnswer, candidatesOut, noNumber, settingsOut}
 
 -- a result is written as bits and read back
 pub crosses : {z y : ℤ} → mag z < 2 ^ 63 → z ≡ y → toZ w64 (ofZ w64 z) ≡ y
 crosses f e = toZ-ofZ (record { sfits = f }) ∙ e
 
 -- a checking call's number, 0 where nothing refuses
-checked : (o : Option ℕ) → minus (numberOf o) ≡ signed (unless o 0)
+checked : (o : Option ℕ) → minus (numberOf o) ≡ signed itself (unless o (given 0))
 checked none = refl
 checked (some n) = refl
 
-pub settings-crosses : (s : Settings) (n : ℕ) → n ≡ numberOf (settingsRefusal s) → minus n ≡ signed (settingsAnswer s)
+pub settings-crosses : {s s′ : Settings} {n : ℕ} → s ≡ s′ → n ≡ numberOf (settingsRefusal s) → minus n ≡ signed itself (settingsAnswer s′)
 unfolding settingsAnswer
-settings-crosses s n e = ap minus e ∙ checked (settingsRefusal s)
+settings-crosses {s} {s′} q e = ap minus (e ∙ ap (λ (x : Settings). numberOf (settingsRefusal x)) q) ∙ checked (settingsRefusal s′)
 
-pub view-crosses : (s : Settings) (c : List ℕ) (b n : ℕ) → n ≡ viewNumber s c b → minus n ≡ signed (viewAnswer s c b)
+pub view-crosses : {s s′ : Settings} (c : List ℕ) (b : ℕ) {n : ℕ} → s ≡ s′ → n ≡ viewNumber s c b → minus n ≡ signed itself (viewAnswer s′ c b)
 unfolding viewAnswer viewNumber
-view-crosses s c b n e = ap minus e ∙ checked (viewRefusal s c b)
-
--- one part of a tag's entry
-abbrev pub part : (Entry → ℕ) → Answer Entry → Answer ℕ
-part f (refused n) = refused n
-part f (given e) = given (f e)
-
-part-unless : (f : Entry → ℕ) (o : Option ℕ) (e : Entry) → part f (unless o e) ≡ unless o (f e)
-part-unless f none e = refl
-part-unless f (some n) e = refl
-
-pub fingerprint-crosses : (s : Settings) (tag : List ℕ) {a : Answer Entry} → a ≡ entryOf s tag → signed (part (λ e. e .print) a) ≡ signed (fingerprintAnswer s tag)
-unfolding fingerprintAnswer
-fingerprint-crosses s tag q = ap (λ (a : Answer Entry). signed (part (λ e. e .print) a)) (q ∙ entry-answer s tag) ∙ ap signed (part-unless (λ e. e .print) (firstMet (settingsChecks s ++ tagChecks tag)) _)
-
-pub home-crosses : (s : Settings) (tag : List ℕ) {a : Answer Entry} → a ≡ entryOf s tag → signed (part (λ e. e .home) a) ≡ signed (homeAnswer s tag)
-unfolding homeAnswer
-home-crosses s tag q = ap (λ (a : Answer Entry). signed (part (λ e. e .home) a)) (q ∙ entry-answer s tag) ∙ ap signed (part-unless (λ e. e .home) (firstMet (settingsChecks s ++ tagChecks tag)) _)
+view-crosses {s} {s′} c b q e = ap minus (e ∙ ap (λ (x : Settings). viewNumber x c b) q) ∙ checked (firstMet (viewChecks s′ c b))
 
 -- a list of candidates
 pub list-refused : (l : CandidateList) {a : Answer (List ℕ)} → Lists l a → (l .refusal ≡ 0 → ⊥) → a ≡ refused (l .refusal)
@@ -64,7 +46,7 @@ list-refused l h m =
     sym (h .says) ∙ ap (λ (t : Bool). cond t (given (take (l .count) (l .buckets))) (refused (l .refusal))) (ne-eqb (l .refusal) 0 m)
 
 pub record Listed (l : CandidateList) (a : Answer (List ℕ)) : Type 0 where
-  pub number : pos (l .count) ≡ signed (counted a)
+  pub number : pos (l .count) ≡ signed length a
   pub places : (out : List ℕ) → l .buckets ≡ candidatesOut a out
 
 pub list-given : (l : CandidateList) (a : Answer (List ℕ)) → Lists l a → l .refusal ≡ 0 → Listed l a
@@ -75,14 +57,27 @@ list-given l (refused n) h z =
     sym (ap (λ (t : Bool). cond t (given (take (l .count) (l .buckets))) (refused (l .refusal))) (eq-eqb (l .refusal) 0 z)) ∙ h .says in
     absurd (let q : _≡_ {A = ℕ} 0 1 = cc in omega arith)
 
--- a call of the table: what it says, and the cells that it leaves
-pub record Told (p : Reply) (cells : List ℕ) (x : Result) : Type 0 where
-  pub number : signedReply p ≡ signedReply (x .reply)
-  pub table : cells ≡ x .cells
+-- an answer that a call gave as the case r′ of its type
+pub answered : {R A : Type 0} (f : A → ℕ) (is : R → Answer A) {r r′ : R} {a b : Answer A} → r ≡ r′ → is r ≡ a → a ≡ b → signed f (is r′) ≡ signed f b
+answered f is q e s = ap (signed f) (sym (ap is q) ∙ e ∙ s)
 
-pub told : {A : Type 0} (is : A → Reply) {r r′ : A} {cells : List ℕ} {x : Result} → r ≡ r′ → result (is r) cells ≡ x → Told (is r′) cells x
-told is {cells = cells} q e =
-    record {
-      number = sym (ap (λ r. signedReply (is r)) q) ∙ ap (λ (y : Result). signedReply (y .reply)) e;
-      table = ap (λ (y : Result). y .cells) e;
-    }
+-- and what a call leaves beside it
+pub record Told {A B : Type 0} (f : A → ℕ) (a : Answer A) (left : B) (x : Outcome A B) : Type 0 where
+  pub number : signed f a ≡ signed f (x .answer)
+  pub leaves : left ≡ x .leaves
+
+pub told : {R A B : Type 0} (f : A → ℕ) (is : R → Answer A) {r r′ : R} {left : B} {x y : Outcome A B} → r ≡ r′ → outcome (is r) left ≡ x → x ≡ y → Told f (is r′) left y
+told {A = A} {B = B} f is {left = left} q e s =
+    let w = sym (ap (λ r. outcome (is r) left) q) ∙ e ∙ s in
+    record { number = ap (λ (z : Outcome A B). signed f (z .answer)) w; leaves = ap (λ (z : Outcome A B). z .leaves) w }
+
+-- a hold file that was read: its settings go to the places that were lent for them
+pub record Read (a : Answer Settings) (left out : List ℕ) (x : Outcome Settings (List ℕ)) : Type 0 where
+  pub number : signed noNumber a ≡ signed noNumber (x .answer)
+  pub leaves : left ≡ x .leaves
+  pub settings : settingsOut a out ≡ settingsOut (x .answer) out
+
+pub read-told : {R : Type 0} (is : R → Answer Settings) {r r′ : R} {left out : List ℕ} {x : Outcome Settings (List ℕ)} → r ≡ r′ → outcome (is r) left ≡ x → Read (is r′) left out x
+read-told is {left = left} {out = out} q e =
+    let t = told noNumber is q e refl in
+    record { number = t .number; leaves = t .leaves; settings = sym (ap (λ r. settingsOut (is r) out) q) ∙ ap (λ (z : Outcome Settings (List ℕ)). settingsOut (z .answer) out) e }

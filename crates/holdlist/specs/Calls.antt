@@ -2,41 +2,36 @@
 -- Assumes nothing.
 use mathlib.Core.List.{List, [], _∷_, _++_}
 use Prim.Native.Nat.{ℕ}
-use lib.ListN.{length, take, replicate}
-use Rattle.index.specs.Checks.{firstMet, Answer, refused, given, unless}
-use Rattle.index.specs.Settings.{settingsChecks, settingsRefusal}
-use Rattle.index.specs.Hash.{fingerprint, home, tagChecks}
+use lib.ListN.{take, replicate}
+use Rattle.refusals.specs.Checks.{firstMet}
+use Rattle.refusals.specs.Outcomes.{Answer, refused, given, unless}
+use Rattle.index.specs.Settings.{settingsRefusal}
+use Rattle.index.specs.Answers.{Entry}
 use Rattle.index.specs.declared.Settings.{Settings}
-use Rattle.table.specs.Calls.{viewRefusal}
+use Rattle.calls.specs.Calls.{viewChecks}
 
 -- the two checking calls: 0, or the number
 unfoldable pub settingsAnswer : Settings → Answer ℕ
-settingsAnswer s = unless (settingsRefusal s) 0
+settingsAnswer s = unless (settingsRefusal s) (given 0)
 
 unfoldable pub viewAnswer : Settings → List ℕ → ℕ → Answer ℕ
-viewAnswer s c b = unless (viewRefusal s c b) 0
+viewAnswer s c b = unless (firstMet (viewChecks s c b)) (given 0)
 
--- fingerprint and home bucket of a tag
-unfoldable pub fingerprintAnswer : Settings → List ℕ → Answer ℕ
-fingerprintAnswer s tag = unless (firstMet (settingsChecks s ++ tagChecks tag)) (fingerprint s tag)
+-- the two parts of a tag's entry
+abbrev pub printOf : Entry → ℕ
+printOf e = e .print
 
-unfoldable pub homeAnswer : Settings → List ℕ → Answer ℕ
-homeAnswer s tag = unless (firstMet (settingsChecks s ++ tagChecks tag)) (home s tag)
-
--- how many candidates there are
-abbrev pub counted : Answer (List ℕ) → Answer ℕ
-counted (refused n) = refused n
-counted (given l) = given (length l)
+abbrev pub homeOf : Entry → ℕ
+homeOf e = e .home
 
 -- the four places that are lent for candidates: those in order and then 0, unchanged by a refusal
 abbrev pub candidatesOut : Answer (List ℕ) → List ℕ → List ℕ
 candidatesOut (refused n) out = out
 candidatesOut (given l) out = take 4 (l ++ replicate 4 0)
 
--- reading a hold file: 0 for the settings, which go to the four places that are lent for them, unchanged by a refusal
-abbrev pub accepted : Answer Settings → Answer ℕ
-accepted (refused n) = refused n
-accepted (given s) = given 0
+-- reading a hold file answers 0, and the settings go to the four places that are lent for them, unchanged by a refusal
+abbrev pub noNumber : Settings → ℕ
+noNumber s = 0
 
 abbrev pub settingsOut : Answer Settings → List ℕ → List ℕ
 settingsOut (refused n) out = out

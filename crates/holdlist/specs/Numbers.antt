@@ -3,26 +3,31 @@
 -- Assumes nothing.
 use Prim.Native.Nat.{ℕ}
 use lib.IntN.{ℤ, pos, negℤ}
-use Rattle.index.specs.Checks.{Answer, refused, given}
+use Rattle.refusals.specs.Outcomes.{Answer, refused, given}
 use Rattle.index.specs.declared.Settings.{Settings}
-use Rattle.table.specs.Calls.{Reply, refused as refusedReply, cleared, held, clear, released, absent, accepted}
+use Rattle.calls.specs.Calls.{Said, cleared, held, clear, released, absent, accepted}
 
+-- the settings that four numbers are
 abbrev pub settingsOf : ℕ → ℕ → ℕ → ℕ → Settings
 settingsOf rule width buckets mask = record { rule = rule; width = width; buckets = buckets; mask = mask }
 
 abbrev pub minus : ℕ → ℤ
 minus n = negℤ (pos n)
 
-abbrev pub signed : Answer ℕ → ℤ
-signed (given n) = pos n
-signed (refused n) = minus n
+-- an answer, by the number that stands for its values
+abbrev pub signed : {A : Type 0} → (A → ℕ) → Answer A → ℤ
+signed f (given a) = pos (f a)
+signed f (refused n) = minus n
+
+-- a number stands for itself
+abbrev pub itself : ℕ → ℕ
+itself n = n
 
 -- what a call of the table says
-abbrev pub signedReply : Reply → ℤ
-signedReply (refusedReply n) = minus n
-signedReply cleared = pos 0
-signedReply held = pos 1
-signedReply clear = pos 0
-signedReply released = pos 1
-signedReply absent = pos 0
-signedReply (accepted n) = pos n
+abbrev pub saidNumber : Said → ℕ
+saidNumber cleared = 0
+saidNumber held = 1
+saidNumber clear = 0
+saidNumber released = 1
+saidNumber absent = 0
+saidNumber (accepted n) = n

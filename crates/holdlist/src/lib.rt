@@ -6,14 +6,15 @@ ghost use mathlib.Core.Option.{some};
 ghost use Prim.Native.Nat.{ℕ, _<_, _^_};
 ghost use lib.IntN.{pos};
 ghost use lib.ListN.{length};
-ghost use Rattle.index.specs.Answers.{offsetAnswer, candidatesAnswer};
-ghost use Rattle.table.specs.Calls.{clearTable, lookup as lookupOf, release as releaseOf, hold as holdOf, holdRefusal};
-ghost use Rattle.holdfile.specs.Writer.{writeFile};
-ghost use Rattle.holdfile.specs.Reader.{readFile};
-ghost use Rattle.packed.specs.Writer.{writePacked};
-ghost use Rattle.packed.specs.Reader.{readPacked};
-ghost use Rattle.holdlist.specs.Numbers.{settingsOf, minus, signed, signedReply};
-ghost use Rattle.holdlist.specs.Calls.{settingsAnswer, viewAnswer, fingerprintAnswer, homeAnswer, counted, candidatesOut, accepted, settingsOut};
+ghost use Rattle.refusals.specs.Checks.{firstMet};
+ghost use Rattle.index.specs.Answers.{entryOf, offsetAnswer, candidatesAnswer};
+ghost use Rattle.calls.specs.Calls.{clearTable, lookup as lookupOf, release as releaseOf, hold as holdOf, holdChecks};
+ghost use Rattle.file_form.specs.Writer.{writeFile};
+ghost use Rattle.file_form.specs.Reader.{readFile};
+ghost use Rattle.packed_form.specs.Writer.{writePacked};
+ghost use Rattle.packed_form.specs.Reader.{readPacked};
+ghost use Rattle.holdlist.specs.Numbers.{settingsOf, minus, signed, itself, saidNumber};
+ghost use Rattle.holdlist.specs.Calls.{settingsAnswer, viewAnswer, printOf, homeOf, candidatesOut, noNumber, settingsOut};
 use holdfile::ReadAnswer;
 use holdfile::WriteAnswer;
 use index::OffsetAnswer;
@@ -48,17 +49,24 @@ fn refused(n: u32) -> i64
     0 - (n as i64)
 }
 
-// 0, or minus the number that refuses the settings.
-#[no_mangle]
-pub extern "C" fn holdlist_settings_check(rule: u32, width: u32, buckets: u32, mask: u32) -> i64
-    ensures { λ r. ⌜ r ≡ signed (settingsAnswer (settingsOf rule width buckets mask)) ⌝ }
+// The settings as they are lent: the one place where they are made.
+fn settings(rule: u32, width: u32, buckets: u32, mask: u32) -> Settings
+    ensures { λ r. ⌜ r ≡ settingsOf rule width buckets mask ⌝ }
 {
-    let s = Settings {
+    Settings {
         rule,
         width,
         buckets,
         mask,
-    };
+    }
+}
+
+// 0, or minus the number that refuses the settings.
+#[no_mangle]
+pub extern "C" fn holdlist_settings_check(rule: u32, width: u32, buckets: u32, mask: u32) -> i64
+    ensures { λ r. ⌜ r ≡ signed itself (settingsAnswer (settingsOf rule width buckets mask)) ⌝ }
+{
+    let s = settings(rule, width, buckets, mask);
     refused(s.refusal())
 }
 
@@ -71,14 +79,9 @@ pub extern "C" fn holdlist_fingerprint(
     mask: u32,
     tag: &[u8],
 ) -> i64
-    ensures { λ r. ⌜ r ≡ signed (fingerprintAnswer (settingsOf rule width buckets mask) (now (tag .entry))) ⌝ }
+    ensures { λ r. ⌜ r ≡ signed printOf (entryOf (settingsOf rule width buckets mask) (now (tag .entry))) ⌝ }
 {
-    let s = Settings {
-        rule,
-        width,
-        buckets,
-        mask,
-    };
+    let s = settings(rule, width, buckets, mask);
     match index::entry_of(s, tag) {
         TagEntry::At(p, _) => given(p as u32),
         TagEntry::Refused(n) => refused(n),
@@ -88,14 +91,9 @@ pub extern "C" fn holdlist_fingerprint(
 // The home bucket of a tag.
 #[no_mangle]
 pub extern "C" fn holdlist_home(rule: u32, width: u32, buckets: u32, mask: u32, tag: &[u8]) -> i64
-    ensures { λ r. ⌜ r ≡ signed (homeAnswer (settingsOf rule width buckets mask) (now (tag .entry))) ⌝ }
+    ensures { λ r. ⌜ r ≡ signed homeOf (entryOf (settingsOf rule width buckets mask) (now (tag .entry))) ⌝ }
 {
-    let s = Settings {
-        rule,
-        width,
-        buckets,
-        mask,
-    };
+    let s = settings(rule, width, buckets, mask);
     match index::entry_of(s, tag) {
         TagEntry::At(_, home) => given(home),
         TagEntry::Refused(n) => refused(n),
@@ -111,14 +109,9 @@ pub extern "C" fn holdlist_offset(
     mask: u32,
     fingerprint: u16,
 ) -> i64
-    ensures { λ r. ⌜ r ≡ signed (offsetAnswer (settingsOf rule width buckets mask) fingerprint) ⌝ }
+    ensures { λ r. ⌜ r ≡ signed itself (offsetAnswer (settingsOf rule width buckets mask) fingerprint) ⌝ }
 {
-    let s = Settings {
-        rule,
-        width,
-        buckets,
-        mask,
-    };
+    let s = settings(rule, width, buckets, mask);
     match index::offset(s, fingerprint) {
         OffsetAnswer::Is(d) => given(d),
         OffsetAnswer::Refused(n) => refused(n),
@@ -136,15 +129,10 @@ pub extern "C" fn holdlist_candidates(
     bucket: u32,
     out: &mut [u32; 4],
 ) -> i64
-    ensures { λ r. ⌜ r ≡ signed (counted (candidatesAnswer (settingsOf rule width buckets mask) fingerprint bucket)) ⌝ }
+    ensures { λ r. ⌜ r ≡ signed length (candidatesAnswer (settingsOf rule width buckets mask) fingerprint bucket) ⌝ }
     ensures { λ r. ⌜ now (out .exit) ≡ candidatesOut (candidatesAnswer (settingsOf rule width buckets mask) fingerprint bucket) (now (out .entry)) ⌝ }
 {
-    let s = Settings {
-        rule,
-        width,
-        buckets,
-        mask,
-    };
+    let s = settings(rule, width, buckets, mask);
     let list = index::candidates(s, fingerprint, bucket);
     let n = list.refusal;
     if n != 0 {
@@ -164,15 +152,10 @@ pub extern "C" fn holdlist_clear(
     mask: u32,
     table: &mut [u16],
 ) -> i64
-    ensures { λ r. ⌜ r ≡ signedReply (clearTable (settingsOf rule width buckets mask) (now (table .entry)) .reply) ⌝ }
-    ensures { λ r. ⌜ now (table .exit) ≡ clearTable (settingsOf rule width buckets mask) (now (table .entry)) .cells ⌝ }
+    ensures { λ r. ⌜ r ≡ signed saidNumber (clearTable (settingsOf rule width buckets mask) (now (table .entry)) .answer) ⌝ }
+    ensures { λ r. ⌜ now (table .exit) ≡ clearTable (settingsOf rule width buckets mask) (now (table .entry)) .leaves ⌝ }
 {
-    let s = Settings {
-        rule,
-        width,
-        buckets,
-        mask,
-    };
+    let s = settings(rule, width, buckets, mask);
     match table::clear(s, table) {
         ClearAnswer::Cleared => 0,
         ClearAnswer::Refused(n) => refused(n),
@@ -189,14 +172,9 @@ pub extern "C" fn holdlist_lookup(
     table: &[u16],
     tag: &[u8],
 ) -> i64
-    ensures { λ r. ⌜ r ≡ signedReply (lookupOf (settingsOf rule width buckets mask) (now (table .entry)) (now (tag .entry)) .reply) ⌝ }
+    ensures { λ r. ⌜ r ≡ signed saidNumber (lookupOf (settingsOf rule width buckets mask) (now (table .entry)) (now (tag .entry)) .answer) ⌝ }
 {
-    let s = Settings {
-        rule,
-        width,
-        buckets,
-        mask,
-    };
+    let s = settings(rule, width, buckets, mask);
     match table::lookup(s, table, tag) {
         LookupAnswer::Held => 1,
         LookupAnswer::Clear => 0,
@@ -214,15 +192,10 @@ pub extern "C" fn holdlist_release(
     table: &mut [u16],
     tag: &[u8],
 ) -> i64
-    ensures { λ r. ⌜ r ≡ signedReply (releaseOf (settingsOf rule width buckets mask) (now (table .entry)) (now (tag .entry)) .reply) ⌝ }
-    ensures { λ r. ⌜ now (table .exit) ≡ releaseOf (settingsOf rule width buckets mask) (now (table .entry)) (now (tag .entry)) .cells ⌝ }
+    ensures { λ r. ⌜ r ≡ signed saidNumber (releaseOf (settingsOf rule width buckets mask) (now (table .entry)) (now (tag .entry)) .answer) ⌝ }
+    ensures { λ r. ⌜ now (table .exit) ≡ releaseOf (settingsOf rule width buckets mask) (now (table .entry)) (now (tag .entry)) .leaves ⌝ }
 {
-    let s = Settings {
-        rule,
-        width,
-        buckets,
-        mask,
-    };
+    let s = settings(rule, width, buckets, mask);
     match table::release(s, table, tag) {
         ReleaseAnswer::Released => 1,
         ReleaseAnswer::Absent => 0,
@@ -241,16 +214,11 @@ pub extern "C" fn holdlist_hold(
     scratch: &mut [u32],
     tag: &[u8],
 ) -> i64
-    ensures { λ r. ⌜ r ≡ signedReply (holdOf (settingsOf rule width buckets mask) (now (table .entry)) (length (now (scratch .entry))) (now (tag .entry)) .reply) ⌝ }
-    ensures { λ r. ⌜ now (table .exit) ≡ holdOf (settingsOf rule width buckets mask) (now (table .entry)) (length (now (scratch .entry))) (now (tag .entry)) .cells ⌝ }
-    ensures { λ r. ⌜ ((n : ℕ) → holdRefusal (settingsOf rule width buckets mask) (now (table .entry)) (length (now (scratch .entry))) (now (tag .entry)) ≡ some n → now (scratch .exit) ≡ now (scratch .entry)) ⌝ }
+    ensures { λ r. ⌜ r ≡ signed saidNumber (holdOf (settingsOf rule width buckets mask) (now (table .entry)) (length (now (scratch .entry))) (now (tag .entry)) .answer) ⌝ }
+    ensures { λ r. ⌜ now (table .exit) ≡ holdOf (settingsOf rule width buckets mask) (now (table .entry)) (length (now (scratch .entry))) (now (tag .entry)) .leaves ⌝ }
+    ensures { λ r. ⌜ ((n : ℕ) → firstMet (holdChecks (settingsOf rule width buckets mask) (now (table .entry)) (length (now (scratch .entry))) (now (tag .entry))) ≡ some n → now (scratch .exit) ≡ now (scratch .entry)) ⌝ }
 {
-    let s = Settings {
-        rule,
-        width,
-        buckets,
-        mask,
-    };
+    let s = settings(rule, width, buckets, mask);
     match table::hold(s, table, scratch, tag) {
         HoldAnswer::Accepted(moves) => given(moves),
         HoldAnswer::Refused(n) => refused(n),
@@ -267,14 +235,9 @@ pub extern "C" fn holdlist_view_check(
     table: &[u16],
     bucket: u32,
 ) -> i64
-    ensures { λ r. ⌜ r ≡ signed (viewAnswer (settingsOf rule width buckets mask) (now (table .entry)) bucket) ⌝ }
+    ensures { λ r. ⌜ r ≡ signed itself (viewAnswer (settingsOf rule width buckets mask) (now (table .entry)) bucket) ⌝ }
 {
-    let s = Settings {
-        rule,
-        width,
-        buckets,
-        mask,
-    };
+    let s = settings(rule, width, buckets, mask);
     refused(table::view_check(s, table, bucket))
 }
 
@@ -288,15 +251,10 @@ pub extern "C" fn holdlist_file_write(
     table: &[u16],
     out: &mut [u8],
 ) -> i64
-    ensures { λ r. ⌜ r ≡ signed (writeFile (settingsOf rule width buckets mask) (now (table .entry)) (now (out .entry)) .answer) ⌝ }
-    ensures { λ r. ⌜ now (out .exit) ≡ writeFile (settingsOf rule width buckets mask) (now (table .entry)) (now (out .entry)) .output ⌝ }
+    ensures { λ r. ⌜ r ≡ signed itself (writeFile (settingsOf rule width buckets mask) (now (table .entry)) (now (out .entry)) .answer) ⌝ }
+    ensures { λ r. ⌜ now (out .exit) ≡ writeFile (settingsOf rule width buckets mask) (now (table .entry)) (now (out .entry)) .leaves ⌝ }
 {
-    let s = Settings {
-        rule,
-        width,
-        buckets,
-        mask,
-    };
+    let s = settings(rule, width, buckets, mask);
     match holdfile::write(s, table, out) {
         WriteAnswer::Written(n) => given_count(n),
         WriteAnswer::Refused(n) => refused(n),
@@ -310,8 +268,8 @@ pub extern "C" fn holdlist_file_read(
     table: &mut [u16],
     settings: &mut [u32; 4],
 ) -> i64
-    ensures { λ r. ⌜ r ≡ signed (accepted (readFile (now (bytes .entry)) (now (table .entry)) .answer)) ⌝ }
-    ensures { λ r. ⌜ now (table .exit) ≡ readFile (now (bytes .entry)) (now (table .entry)) .cells ⌝ }
+    ensures { λ r. ⌜ r ≡ signed noNumber (readFile (now (bytes .entry)) (now (table .entry)) .answer) ⌝ }
+    ensures { λ r. ⌜ now (table .exit) ≡ readFile (now (bytes .entry)) (now (table .entry)) .leaves ⌝ }
     ensures { λ r. ⌜ now (settings .exit) ≡ settingsOut (readFile (now (bytes .entry)) (now (table .entry)) .answer) (now (settings .entry)) ⌝ }
 {
     match holdfile::read(bytes, table) {
@@ -334,15 +292,10 @@ pub extern "C" fn holdlist_packed_write(
     table: &[u16],
     out: &mut [u8],
 ) -> i64
-    ensures { λ r. ⌜ r ≡ signed (writePacked (settingsOf rule width buckets mask) (now (table .entry)) (now (out .entry)) .answer) ⌝ }
-    ensures { λ r. ⌜ now (out .exit) ≡ writePacked (settingsOf rule width buckets mask) (now (table .entry)) (now (out .entry)) .output ⌝ }
+    ensures { λ r. ⌜ r ≡ signed itself (writePacked (settingsOf rule width buckets mask) (now (table .entry)) (now (out .entry)) .answer) ⌝ }
+    ensures { λ r. ⌜ now (out .exit) ≡ writePacked (settingsOf rule width buckets mask) (now (table .entry)) (now (out .entry)) .leaves ⌝ }
 {
-    let s = Settings {
-        rule,
-        width,
-        buckets,
-        mask,
-    };
+    let s = settings(rule, width, buckets, mask);
     match packed::write(s, table, out) {
         PackAnswer::Packed(n) => given_count(n),
         PackAnswer::Refused(n) => refused(n),
@@ -359,15 +312,10 @@ pub extern "C" fn holdlist_packed_read(
     bytes: &[u8],
     table: &mut [u16],
 ) -> i64
-    ensures { λ r. ⌜ r ≡ signed (readPacked (settingsOf rule width buckets mask) (now (bytes .entry)) (now (table .entry)) .answer) ⌝ }
-    ensures { λ r. ⌜ now (table .exit) ≡ readPacked (settingsOf rule width buckets mask) (now (bytes .entry)) (now (table .entry)) .cells ⌝ }
+    ensures { λ r. ⌜ r ≡ signed itself (readPacked (settingsOf rule width buckets mask) (now (bytes .entry)) (now (table .entry)) .answer) ⌝ }
+    ensures { λ r. ⌜ now (table .exit) ≡ readPacked (settingsOf rule width buckets mask) (now (bytes .entry)) (now (table .entry)) .leaves ⌝ }
 {
-    let s = Settings {
-        rule,
-        width,
-        buckets,
-        mask,
-    };
+    let s = settings(rule, width, buckets, mask);
     match packed::read(s, bytes, table) {
         UnpackAnswer::Unpacked(n) => given_count(n),
         UnpackAnswer::Refused(n) => refused(n),

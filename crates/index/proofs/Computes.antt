@@ -1,13 +1,13 @@
 -- What the code computes is what the definitions say, in plain numbers and lists.
 -- Assumes nothing.
-use mathlib.Core.Path.{_≡_, refl, sym, ap, ap₂, _∙_, subst}
+use mathlib.Core.Path.{_≡_, refl, sym, ap, ap₂, _∙_}
 use mathlib.Core.Logic.{_≢_}
 use mathlib.Core.List.{List, [], _∷_}
 use Prim.Native.Nat.{ℕ, zero, suc, _+_, _*_, _-_, _/_, _%_, _^_, _≤_, _<_}
 use native.Mathlib.Nat.{div-add-mod', mod-lt, zero-add, add-mod, add-mod-mod, lt-of-lt-of-le, one-mul}
 use native.Mathlib.Numerals.{add-one}
 use native.Mathlib.Omega.{arith}
-use lib.Bits.{bitAnd, bitXor, xor-block, xor-zero-r, and-mask, and-le-r}
+use lib.Bits.{bitAnd, bitXor, xor-block, xor-zero-r, and-mask}
 use lib.ListN.{length, getD, drop, drop-of-length-le}
 use lib.Seq.{drop-cons}
 use lib.Pow.{pow-pos, pow-mono, shl-exact}
@@ -23,30 +23,29 @@ times3 : (h : ℕ) → (h + h * 2 ^ 1 % 2 ^ 64) % 2 ^ 64 ≡ h * 3 % 2 ^ 64
 times3 h = add-mod-mod h (h * 2) (2 ^ 64) ∙ ap (λ (x : ℕ). x % 2 ^ 64) (omega arith)
 
 times27 : (h : ℕ) → (h * 3 % 2 ^ 64 + h * 3 % 2 ^ 64 * 2 ^ 3 % 2 ^ 64) % 2 ^ 64 ≡ h * 27 % 2 ^ 64
-times27 h = add-mod-mod (h * 3 % 2 ^ 64) (h * 3 % 2 ^ 64 * 2 ^ 3) (2 ^ 64) ∙ nine (h * 3) ∙ ap (λ (x : ℕ). x % 2 ^ 64) (omega arith)
+times27 h =
+    add-mod-mod (h * 3 % 2 ^ 64) (h * 3 % 2 ^ 64 * 2 ^ 3) (2 ^ 64) ∙ ap (λ (x : ℕ). x % 2 ^ 64) (nine (h * 3 % 2 ^ 64))
+    ∙ mod-times (h * 3) 9 (2 ^ 64) ∙ ap (λ (x : ℕ). x % 2 ^ 64) (omega arith)
   where
-    nine : (x : ℕ) → (x % 2 ^ 64 + x % 2 ^ 64 * 2 ^ 3) % 2 ^ 64 ≡ x * 9 % 2 ^ 64
-    nine x = ap (λ (y : ℕ). y % 2 ^ 64) (thrice (x % 2 ^ 64)) ∙ mod-times x 9 (2 ^ 64)
-      where
-        thrice : (y : ℕ) → y + y * 2 ^ 3 ≡ y * 9
-        thrice y = omega arith
+    nine : (x : ℕ) → x + x * 2 ^ 3 ≡ x * 9
+    nine x = omega arith
 
 times435 : (h : ℕ) → (h * 27 % 2 ^ 64 * 2 ^ 4 % 2 ^ 64 + h * 3 % 2 ^ 64) % 2 ^ 64 ≡ h * 435 % 2 ^ 64
 times435 h =
     ap (λ (x : ℕ). (x + h * 3 % 2 ^ 64) % 2 ^ 64) (mod-times (h * 27) 16 (2 ^ 64))
     ∙ sym (add-mod (h * 27 * 16) (h * 3) (2 ^ 64)) ∙ ap (λ (x : ℕ). x % 2 ^ 64) (omega arith)
 
-pub prime-by-shifts : (h h3 h27 h435 r : ℕ)
+pub prime-by-shifts : (h : ℕ) {h3 h27 h435 r : ℕ}
     → h3 ≡ (h + h * 2 ^ 1 % 2 ^ 64) % 2 ^ 64 → h27 ≡ (h3 + h3 * 2 ^ 3 % 2 ^ 64) % 2 ^ 64 → h435 ≡ (h27 * 2 ^ 4 % 2 ^ 64 + h3) % 2 ^ 64
     → r ≡ (h * 2 ^ 40 % 2 ^ 64 + h435) % 2 ^ 64 → r ≡ h * fnvPrime % 2 ^ 64
-prime-by-shifts h h3 h27 h435 r a b d e =
+prime-by-shifts h {h3} {h27} {h435} a b d e =
     let a′ : h3 ≡ h * 3 % 2 ^ 64 = a ∙ times3 h in
     let b′ : h27 ≡ h * 27 % 2 ^ 64 = b ∙ ap (λ (x : ℕ). (x + x * 2 ^ 3 % 2 ^ 64) % 2 ^ 64) a′ ∙ times27 h in
     let d′ : h435 ≡ h * 435 % 2 ^ 64 = d ∙ ap₂ (λ (x y : ℕ). (x * 2 ^ 4 % 2 ^ 64 + y) % 2 ^ 64) b′ a′ ∙ times435 h in
     e ∙ ap (λ (x : ℕ). (h * 2 ^ 40 % 2 ^ 64 + x) % 2 ^ 64) d′ ∙ sym (add-mod (h * 2 ^ 40) (h * 435) (2 ^ 64)) ∙ ap (λ (x : ℕ). x % 2 ^ 64) (omega arith)
 
 -- a byte put to a whole hash changes its low eight bits alone
-pub low-byte : (h b : ℕ) → b < 256 → bitXor h b ≡ h / 256 * 256 + bitXor (h % 256) b
+low-byte : (h b : ℕ) → b < 256 → bitXor h b ≡ h / 256 * 256 + bitXor (h % 256) b
 low-byte h b l =
     ap₂ bitXor (sym (div-add-mod' h 256)) (sym (zero-add b))
     ∙ xor-block 8 (h / 256) 0 (h % 256) b (mod-lt h (pow-pos 8)) l
@@ -65,19 +64,17 @@ pub fnv-end : (a : List ℕ) (i h : ℕ) → length a ≤ i → fnvFrom h (drop 
 unfolding fnvFrom
 fnv-end a i h l = ap (fnvFrom h) (drop-of-length-le a l)
 
-pub fnv-pair : (x y : ℕ) → fnv1a (x ∷ y ∷ []) ≡ fnvStep (fnvStep fnvStart x) y
+fnv-pair : (x y : ℕ) → fnv1a (x ∷ y ∷ []) ≡ fnvStep (fnvStep fnvStart x) y
 unfolding fnv1a fnvFrom
 fnv-pair x y = refl
 
 -- ── reduction ──
-module _ (s : Settings) (G : Good s) (h : ℕ) where
+module _ {s : Settings} (G : Good s) (h : ℕ) where
   pub ring-result : s .rule ≡ 1 → h % (s .buckets / 2) ≡ h % modulus s
-  ring-result e = ap (λ (z : ℕ). h % z) (sym (modulus-ring s e))
+  ring-result e = rw (modulus-ring s e)
 
   pub low-bits : s .rule ≢ 1 → bitAnd h (s .buckets - 1) ≡ h % modulus s
-  low-bits n =
-      let k = G .power n in
-      subst (λ (z : ℕ). bitAnd h (z - 1) ≡ h % z) (sym (k .1)) (and-mask h (k .0)) ∙ ap (λ (z : ℕ). h % z) (sym (modulus-xor s n))
+  low-bits n = let k = G .power n in rw (modulus-xor s n, k .1) (and-mask h (k .0))
 
   -- ── the low w bits ──
   pub one-shifted : 1 * 2 ^ s .width % 2 ^ 64 ≡ 2 ^ s .width
@@ -102,14 +99,15 @@ module _ (s : Settings) (G : Good s) (h : ℕ) where
       go (suc r) m = refl
 
 -- ── the entry and the offset ──
-pub print-of : (s : Settings) (t : List ℕ) (h p : ℕ) → h ≡ fnv1a t → p ≡ fingerprintOf s h → p ≡ fingerprint s t
+pub print-of : (s : Settings) (t : List ℕ) {h p : ℕ} → h ≡ fnv1a t → p ≡ fingerprintOf s h → p ≡ fingerprint s t
 unfolding fingerprint
-print-of s t h p e q = q ∙ ap (fingerprintOf s) e
+print-of s t e q = q ∙ ap (fingerprintOf s) e
 
-pub home-of : (s : Settings) (t : List ℕ) (h b : ℕ) → h ≡ fnv1a t → b ≡ h / 2 ^ 32 % modulus s → b ≡ home s t
+pub home-of : (s : Settings) (t : List ℕ) {h b : ℕ} → h ≡ fnv1a t → b ≡ h / 2 ^ 32 % modulus s → b ≡ home s t
 unfolding home homeOf
-home-of s t h b e q = q ∙ ap (λ (x : ℕ). x / 2 ^ 32 % modulus s) e
+home-of s t e q = q ∙ ap (λ (x : ℕ). x / 2 ^ 32 % modulus s) e
 
-pub offset-by-bytes : (s : Settings) (p x y d : ℕ) → x ≡ fnvStep fnvStart (p % 256) → y ≡ fnvStep x (p / 256) → d ≡ y % modulus s → d ≡ offset s p
+pub offset-by-bytes : (s : Settings) (p : ℕ) {x y d : ℕ} → x ≡ fnvStep fnvStart (p % 256) → y ≡ fnvStep x (p / 256) → d ≡ y % modulus s → d ≡ offset s p
 unfolding offset
-offset-by-bytes s p x y d ex ey ed = ed ∙ ap (λ (z : ℕ). z % modulus s) (ey ∙ ap (λ (z : ℕ). fnvStep z (p / 256)) ex ∙ sym (fnv-pair (p % 256) (p / 256)))
+offset-by-bytes s p ex ey ed =
+    ed ∙ ap (λ (z : ℕ). z % modulus s) (ey ∙ ap (λ (z : ℕ). fnvStep z (p / 256)) ex ∙ sym (fnv-pair (p % 256) (p / 256)))

@@ -18,7 +18,7 @@ use Rattle.index.specs.Settings.{byRule, powerBelow, powerOfTwo, odd, se
 use Rattle.index.specs.declared.Settings.{Settings}
 
 -- ── powers of two ──
-pub power-below : (n m : ℕ) → powerBelow n m ≡ true → (k : ℕ) × (m ≡ 2 ^ k)
+power-below : (n m : ℕ) → powerBelow n m ≡ true → (k : ℕ) × (m ≡ 2 ^ k)
 power-below zero m e = absurd (let z : _≡_ {A = ℕ} 0 1 = cc in omega arith)
 power-below (suc n) m e = go (eqb m (2 ^ n)) refl e (power-below n m)
   where
@@ -26,7 +26,7 @@ power-below (suc n) m e = go (eqb m (2 ^ n)) refl e (power-below n m)
     go true t e r = (n, eqb-true m (2 ^ n) t)
     go false t e r = r e
 
-pub below-power : (n k m : ℕ) → k < n → m ≡ 2 ^ k → powerBelow n m ≡ true
+below-power : (n k m : ℕ) → k < n → m ≡ 2 ^ k → powerBelow n m ≡ true
 below-power zero k m h e = absurd (omega arith)
 below-power (suc n) k m h e = go (eqb m (2 ^ n)) refl (below-power n k m)
   where
@@ -38,7 +38,7 @@ below-power (suc n) k m h e = go (eqb m (2 ^ n)) refl (below-power n k m)
     ]
 
 -- the test that the code makes
-pub power-test : (m : ℕ) → 0 < m → m ≤ 65536 → eqb (bitAnd m (m - 1)) 0 ≡ powerOfTwo m
+power-test : (m : ℕ) → 0 < m → m ≤ 65536 → eqb (bitAnd m (m - 1)) 0 ≡ powerOfTwo m
 unfolding powerOfTwo
 power-test m h l = go (eqb (bitAnd m (m - 1)) 0) refl (powerBelow 17 m) refl
   where
@@ -117,7 +117,7 @@ mask-of-none : (r m k : ℕ) → byRule r (not (eqb k 0)) (not (eqb k 0)) (leb m
 mask-of-none r m k e l n = eqb-true k 0 (not-false (eqb k 0) (sym (by-pair r (not (eqb k 0)) (leb m k) (omega arith)) ∙ e))
 
 pub good : (s : Settings) → settingsRefusal s ≡ none → Good s
-unfolding settingsRefusal settingsChecks
+unfolding settingsChecks
 good s e =
     let m : ℕ = s .buckets in
     let c1 = cond-none (ltb 2 (s .rule)) 1 _ e in
@@ -141,7 +141,7 @@ good s e =
 -- ── what hashes are reduced by ──
 pub modulus-ring : (s : Settings) → s .rule ≡ 1 → modulus s ≡ s .buckets / 2
 unfolding modulus half
-modulus-ring s e = ap (λ (r : ℕ). byRule r (s .buckets) (s .buckets / 2) (s .buckets)) e
+modulus-ring s e = rw e
 
 pub modulus-xor : (s : Settings) → s .rule ≢ 1 → modulus s ≡ s .buckets
 unfolding modulus

@@ -1,11 +1,11 @@
 -- The index layer keeps its laws, under every rule, at all settings that pass their checks.
 -- Assumes nothing.
-use mathlib.Core.Path.{_≡_, refl, sym, ap, _∙_, subst}
+use mathlib.Core.Path.{_≡_, refl, sym, ap, _∙_}
 use mathlib.Core.Logic.{_⊎_, inl, inr, _≢_}
 use mathlib.Core.Option.{none}
 use mathlib.Core.List.{List, [], _∷_, map}
-use Prim.Native.Nat.{ℕ, zero, suc, _+_, _*_, _-_, _/_, _%_, _^_, _≤_, _<_}
-use native.Mathlib.Nat.{mod-lt, le-trans, lt-of-lt-of-le, lt-of-le-of-lt}
+use Prim.Native.Nat.{ℕ, zero, suc, _*_, _-_, _/_, _%_, _^_, _<_}
+use native.Mathlib.Nat.{mod-lt, lt-of-lt-of-le, lt-of-le-of-lt}
 use native.Mathlib.Decide.{ℕ-discrete}
 use native.Mathlib.Omega.{arith}
 use lib.Bits.{bitAnd, bitXor, xor-zero-r, xor-lt, and-le-l}
@@ -22,41 +22,34 @@ use Rattle.index.specs.Candidates.{offset, across, coMask, xorSteps, oth
 use Rattle.index.specs.Laws.{Laws}
 use Rattle.index.specs.declared.Settings.{Settings}
 use Rattle.index.proofs.Good.{Good, good, by-masked, by-xor, modulus-below, modulus-ring, modulus-xor}
-use Rattle.index.proofs.Rules.{Closed, step-of, coset, plain-closed, masked-closed, across-below, across-back, pair-alike}
+use Rattle.index.proofs.Cosets.{Closed, step-of, coset, plain-closed, masked-closed}
+use Rattle.index.proofs.Ring.{across-below, across-back, pair-alike}
 
 -- ── the candidates by rule, as the arguments on cosets and pairs take them ──
 steps-plain : (s : Settings) (d : ℕ) → s .rule ≡ 0 → xorSteps s d ≡ d ∷ []
 unfolding xorSteps
-steps-plain s d e = ap (λ (r : ℕ). byRule r (d ∷ []) [] (bitAnd d (s .mask) ∷ bitAnd d (coMask s) ∷ d ∷ [])) e
+steps-plain s d e = rw e
 
 steps-masked : (s : Settings) (d : ℕ) → s .rule ≢ 0 → s .rule ≢ 1 → xorSteps s d ≡ bitAnd d (s .mask) ∷ bitAnd d (coMask s) ∷ d ∷ []
 unfolding xorSteps
-steps-masked s d n m = by-masked (s .rule) (d ∷ []) [] (bitAnd d (s .mask) ∷ bitAnd d (coMask s) ∷ d ∷ []) n m
+steps-masked s d n m = by-masked (s .rule) _ _ _ n m
 
 xor-list : (s : Settings) (p b : ℕ) → s .rule ≢ 1 → candidates s p b ≡ map (bitXor b) (0 ∷ xorSteps s (offset s p))
 unfolding candidates others othersBy
-xor-list s p b n =
-    ap (λ (l : List ℕ). b ∷ l) (by-xor (s .rule) (map (bitXor b) (xorSteps s (offset s p))) (across (half s) (offset s p) b ∷ []) n)
-    ∙ ap (λ (z : ℕ). z ∷ map (bitXor b) (xorSteps s (offset s p))) (sym (xor-zero-r b))
+xor-list s p b n = rw (xor-zero-r b) (ap (λ (l : List ℕ). b ∷ l) (by-xor (s .rule) _ _ n))
 
 -- the candidates of each rule, written out
 pub plain-list : (s : Settings) (p b : ℕ) → s .rule ≡ 0 → candidates s p b ≡ b ∷ bitXor b (offset s p) ∷ []
-unfolding candidates others othersBy
-plain-list s p b e =
-    ap (λ (r : ℕ). b ∷ byRule r (map (bitXor b) (xorSteps s (offset s p))) (across (half s) (offset s p) b ∷ []) (map (bitXor b) (xorSteps s (offset s p)))) e
-    ∙ ap (λ (l : List ℕ). b ∷ map (bitXor b) l) (steps-plain s (offset s p) e)
+plain-list s p b e = rw (xor-list s p b (λ z. omega arith), steps-plain s (offset s p) e, xor-zero-r b)
 
 pub masked-list : (s : Settings) (p b : ℕ) → s .rule ≢ 0 → s .rule ≢ 1
     → candidates s p b ≡ b ∷ bitXor b (bitAnd (offset s p) (s .mask)) ∷ bitXor b (bitAnd (offset s p) (s .buckets - 1 - s .mask)) ∷ bitXor b (offset s p) ∷ []
-unfolding candidates others othersBy coMask
-masked-list s p b n m =
-    ap (λ (l : List ℕ). b ∷ l) (by-xor (s .rule) (map (bitXor b) (xorSteps s (offset s p))) (across (half s) (offset s p) b ∷ []) m)
-    ∙ ap (λ (l : List ℕ). b ∷ map (bitXor b) l) (steps-masked s (offset s p) n m)
+unfolding coMask
+masked-list s p b n m = rw (xor-list s p b m, steps-masked s (offset s p) n m, xor-zero-r b)
 
 pub ring-list : (s : Settings) (p b : ℕ) → s .rule ≡ 1 → candidates s p b ≡ b ∷ across (s .buckets / 2) (offset s p) b ∷ []
 unfolding candidates others othersBy half
-ring-list s p b e =
-    ap (λ (r : ℕ). b ∷ byRule r (map (bitXor b) (xorSteps s (offset s p))) (across (s .buckets / 2) (offset s p) b ∷ []) (map (bitXor b) (xorSteps s (offset s p)))) e
+ring-list s p b e = rw e
 
 -- four candidates under the masked rule, two under the others
 fan : ℕ → ℕ
@@ -77,22 +70,18 @@ module _ (s : Settings) (G : Good s) where
   module _ (n : s .rule ≢ 1) (d : ℕ) (hd : d < s .buckets) where
     parts : s .rule ≢ 0 → bitXor (bitAnd d (s .mask)) (bitAnd d (coMask s)) ≡ d
     unfolding coMask
-    parts m =
-        let k = G .power n in
-        subst (λ (z : ℕ). bitXor (bitAnd d (s .mask)) (bitAnd d (z - 1 - s .mask)) ≡ d) (sym (k .1))
-        (mask-parts (k .0) d (s .mask) (subst (λ (z : ℕ). d < z) (k .1) hd) (subst (λ (z : ℕ). s .mask < z) (k .1) (G .mask m n)))
+    parts m = let k = G .power n in rw (k .1) (mask-parts (k .0) d (s .mask) (rw (k .1) at hd) (rw (k .1) at (G .mask m n)))
 
     steps-closed : Closed (0 ∷ xorSteps s d)
     steps-closed = elim (ℕ-discrete (s .rule) 0) [
-      | yes e ↦ subst (λ (l : List ℕ). Closed (0 ∷ l)) (sym (steps-plain s d e)) (plain-closed d)
-      | no m ↦ subst (λ (l : List ℕ). Closed (0 ∷ l)) (sym (steps-masked s d m n)) (masked-closed (bitAnd d (s .mask)) (bitAnd d (coMask s)) d (parts m))
+      | yes e ↦ rw (steps-plain s d e) (plain-closed d)
+      | no m ↦ rw (steps-masked s d m n) (masked-closed (bitAnd d (s .mask)) (bitAnd d (coMask s)) d (parts m))
     ]
 
     steps-below : (e : ℕ) → e among 0 ∷ xorSteps s d → e < s .buckets
     steps-below = elim (ℕ-discrete (s .rule) 0) [
-      | yes q ↦ subst (λ (l : List ℕ). (e : ℕ) → e among 0 ∷ l → e < s .buckets) (sym (steps-plain s d q))
-          (among-cons (λ x. x < s .buckets) 0 (d ∷ []) (G .some-bucket) (one d hd))
-      | no m ↦ subst (λ (l : List ℕ). (e : ℕ) → e among 0 ∷ l → e < s .buckets) (sym (steps-masked s d m n))
+      | yes q ↦ rw (steps-plain s d q) (among-cons (λ x. x < s .buckets) 0 (d ∷ []) (G .some-bucket) (one d hd))
+      | no m ↦ rw (steps-masked s d m n)
           (among-cons (λ x. x < s .buckets) 0 (bitAnd d (s .mask) ∷ bitAnd d (coMask s) ∷ d ∷ []) (G .some-bucket)
           (among-cons (λ x. x < s .buckets) (bitAnd d (s .mask)) (bitAnd d (coMask s) ∷ d ∷ []) (lt-of-le-of-lt (and-le-l d (s .mask)) hd)
           (among-cons (λ x. x < s .buckets) (bitAnd d (coMask s)) (d ∷ []) (lt-of-le-of-lt (and-le-l d (coMask s)) hd) (one d hd))))
@@ -102,16 +91,15 @@ module _ (s : Settings) (G : Good s) where
         one d hd = among-cons (λ x. x < s .buckets) d [] hd (among-nil (λ x. x < s .buckets))
 
   xor-offset : (p : ℕ) → s .rule ≢ 1 → offset s p < s .buckets
-  xor-offset p n = subst (λ (z : ℕ). offset s p < z) (modulus-xor s n) (offset-below p)
+  xor-offset p n = rw (modulus-xor s n) at (offset-below p)
+
+  xor-inside : (b e : ℕ) → s .rule ≢ 1 → b < s .buckets → e < s .buckets → bitXor b e < s .buckets
+  xor-inside b e n hb he = let k = G .power n in rw (k .1) (xor-lt (k .0) b e (rw (k .1) at hb) (rw (k .1) at he))
 
   xor-below : (p b x : ℕ) → s .rule ≢ 1 → b < s .buckets → x among map (bitXor b) (0 ∷ xorSteps s (offset s p)) → x < s .buckets
   xor-below p b x n hb h =
       let t = step-of b (0 ∷ xorSteps s (offset s p)) x h in
-      let k = G .power n in
-      let e : ℕ = t .0 in
-      let he : e < s .buckets = steps-below n (offset s p) (xor-offset p n) e (t .1) in
-      subst (λ (z : ℕ). z < s .buckets) (sym (t .2))
-      (subst (λ (z : ℕ). bitXor b e < z) (sym (k .1)) (xor-lt (k .0) b e (subst (λ (z : ℕ). b < z) (k .1) hb) (subst (λ (z : ℕ). e < z) (k .1) he)))
+      rw (t .2) (xor-inside b (t .0) n hb (steps-below n (offset s p) (xor-offset p n) (t .0) (t .1)))
 
   xor-alike : (p b x : ℕ) → s .rule ≢ 1 → x among candidates s p b → Alike (candidates s p x) (candidates s p b)
   xor-alike p b x n h =
@@ -121,7 +109,7 @@ module _ (s : Settings) (G : Good s) where
   -- ── the ring ──
   module _ (e : s .rule ≡ 1) (p : ℕ) where
     pub ring-offset : offset s p < s .buckets / 2
-    ring-offset = subst (λ (z : ℕ). offset s p < z) (modulus-ring s e) (offset-below p)
+    ring-offset = rw (modulus-ring s e) at (offset-below p)
 
     whole : (b : ℕ) → b < s .buckets → b < 2 * (s .buckets / 2)
     whole b h = omega (arith, G .even e)
@@ -179,9 +167,18 @@ module _ (s : Settings) (G : Good s) where
       go zero k = pow-lt {i = 0} (omega (arith, G .width-low))
       go (suc r) k = k
 
+  mask-low : s .mask < s .buckets
+  mask-low = elim (ℕ-discrete (s .rule) 2) [
+    | yes e ↦ G .mask (λ z. omega arith) (λ z. omega arith)
+    | no n ↦ omega (arith, G .no-mask n, G .some-bucket)
+  ]
+
   pub laws-of : Laws s
   unfolding candidates candidateSet fingerprint home homeOf classAt classOf
   laws-of = record {
+    rule-high = G .rule;
+    no-mask = G .no-mask;
+    mask-below = mask-low;
     some-bucket = G .some-bucket;
     few-buckets = G .few-buckets;
     width-low = G .width-low;

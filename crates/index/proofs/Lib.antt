@@ -1,8 +1,9 @@
 -- What is proved of the definitions. The layers above use `Laws`.
 pub mod Good
 pub mod Ring
-pub mod Rules
+pub mod Cosets
 pub mod Laws
 pub mod Refusals
+pub mod Checks
 pub mod Answers
 pub mod Computes

@@ -7,7 +7,8 @@ use mathlib.Core.Path.{_≡_}
 use Prim.Native.Nat.{ℕ}
 use lib.Dec.{eqb}
 use lib.ListN.{length, take, replicate}
-use Rattle.index.specs.Checks.{Check, firstMet, Answer, refused, given, unless}
+use Rattle.refusals.specs.Checks.{Check, firstMet}
+use Rattle.refusals.specs.Outcomes.{Answer, refused, given, unless}
 use Rattle.index.specs.Settings.{settingsChecks, settingsRefusal}
 use Rattle.index.specs.Hash.{fingerprint, home, tagChecks}
 use Rattle.index.specs.Candidates.{offset, candidates, bucketChecks}
@@ -23,7 +24,7 @@ checkedIs (Checked.Passed s) = given s
 checkedIs (Checked.Refused n) = refused n
 
 unfoldable pub checkedSettings : Settings → Answer Settings
-checkedSettings s = unless (settingsRefusal s) s
+checkedSettings s = unless (settingsRefusal s) (given s)
 
 -- fingerprint and home bucket of a tag, or 1 to 4, or 7
 pub record Entry : Type 0 where
@@ -35,7 +36,7 @@ tagEntryIs (TagEntry.At p h) = given (record { print = p; home = h })
 tagEntryIs (TagEntry.Refused n) = refused n
 
 unfoldable pub entryOf : Settings → List ℕ → Answer Entry
-entryOf s tag = unless (firstMet (settingsChecks s ++ tagChecks tag)) (record { print = fingerprint s tag; home = home s tag })
+entryOf s tag = unless (firstMet (settingsChecks s ++ tagChecks tag)) (given (record { print = fingerprint s tag; home = home s tag }))
 
 -- the offset of a 16-bit value, or 1 to 4
 abbrev pub offsetIs : OffsetAnswer → Answer ℕ
@@ -43,7 +44,7 @@ offsetIs (OffsetAnswer.Is d) = given d
 offsetIs (OffsetAnswer.Refused n) = refused n
 
 unfoldable pub offsetAnswer : Settings → ℕ → Answer ℕ
-offsetAnswer s p = unless (settingsRefusal s) (offset s p)
+offsetAnswer s p = unless (settingsRefusal s) (given (offset s p))
 
 -- the candidates in order, or 1 to 4, or 8. An enum cannot hold an array: the buckets stand beside the refusal, which is 0 where
 -- there is none
@@ -56,7 +57,7 @@ listed (refused n) = record { refusal = n; count = 0; buckets = replicate 4 0 }
 listed (given l) = record { refusal = 0; count = length l; buckets = take 4 (l ++ replicate 4 0) }
 
 unfoldable pub candidatesAnswer : Settings → ℕ → ℕ → Answer (List ℕ)
-candidatesAnswer s p b = unless (firstMet (settingsChecks s ++ bucketChecks s b)) (candidates s p b)
+candidatesAnswer s p b = unless (firstMet (settingsChecks s ++ bucketChecks s b)) (given (candidates s p b))
 
 pub record Lists (l : CandidateList) (a : Answer (List ℕ)) : Type 0 where
   pub says : candidatesAre l ≡ a

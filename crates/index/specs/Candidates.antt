@@ -6,7 +6,7 @@ use Prim.Native.Nat.{ℕ, _+_, _-_, _/_, _%_}
 use lib.Bits.{bitAnd, bitXor}
 use lib.Dec.{leb, ltb}
 use Rattle.lemmas.specs.Members.{membersBelow}
-use Rattle.index.specs.Checks.{Check, check}
+use Rattle.refusals.specs.Checks.{Check, check}
 use Rattle.index.specs.Settings.{byRule, half, modulus}
 use Rattle.index.specs.Hash.{fnv1a, fingerprint, home}
 use Rattle.index.specs.declared.Settings.{Settings}

@@ -6,7 +6,7 @@ use Prim.Native.Nat.{ℕ, zero, suc, _+_, _*_, _/_, _%_, _^_}
 use lib.Bits.{bitXor}
 use lib.Dec.{eqb, ltb}
 use lib.ListN.{length}
-use Rattle.index.specs.Checks.{Check, check}
+use Rattle.refusals.specs.Checks.{Check, check}
 use Rattle.index.specs.Settings.{modulus}
 use Rattle.index.specs.declared.Settings.{Settings}
 

@@ -1,5 +1,4 @@
--- What a reader has to believe of the index layer: the checks, the hash, the candidates, and the laws that the layers above use.
-pub mod Checks
+-- What a reader has to believe of the index layer: the settings and their checks, the hash, the candidates, and the laws that the layers above use.
 pub mod Settings
 pub mod Hash
 pub mod Candidates

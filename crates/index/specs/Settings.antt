@@ -5,7 +5,7 @@ use mathlib.Core.Option.{Option}
 use mathlib.Core.List.{List, [], _∷_}
 use Prim.Native.Nat.{ℕ, zero, suc, _+_, _*_, _/_, _%_, _^_}
 use lib.Dec.{eqb, leb, ltb}
-use Rattle.index.specs.Checks.{Check, check, firstMet}
+use Rattle.refusals.specs.Checks.{Check, check, firstMet}
 use Rattle.index.specs.declared.Settings.{Settings}
 
 -- rule 0 is plain (partial-key XOR), 1 ring (additive and subtractive), 2 masked (vertical)
@@ -30,17 +30,21 @@ powerOfTwo m = powerBelow 17 m
 abbrev pub odd : ℕ → Bool
 odd m = eqb (m % 2) 1
 
+-- the bucket count has not the form that the rule asks
+abbrev pub misshapen : Settings → Bool
+misshapen s = byRule (s .rule) (not (powerOfTwo (s .buckets))) (odd (s .buckets)) (not (powerOfTwo (s .buckets)))
+
 -- the rows of the place "settings", in their order
 unfoldable pub settingsChecks : Settings → List Check
 settingsChecks s =
     check 1 (ltb 2 (s .rule))
     ∷ check 2 (ltb (s .width) 4 || ltb 16 (s .width))
-    ∷ check 3 (eqb (s .buckets) 0 || ltb 65536 (s .buckets) || byRule (s .rule) (not (powerOfTwo (s .buckets))) (odd (s .buckets)) (not (powerOfTwo (s .buckets))))
+    ∷ check 3 (eqb (s .buckets) 0 || ltb 65536 (s .buckets) || misshapen s)
     ∷ check 4 (byRule (s .rule) (not (eqb (s .mask) 0)) (not (eqb (s .mask) 0)) (leb (s .buckets) (s .mask)))
     ∷ []
 
 -- the first number by which the settings are refused, if any
-unfoldable pub settingsRefusal : Settings → Option ℕ
+abbrev pub settingsRefusal : Settings → Option ℕ
 settingsRefusal s = firstMet (settingsChecks s)
 
 -- L, half the bucket count, which the ring rule alone uses

@@ -4,9 +4,9 @@ ghost use mathlib.Core.Path.{_≡_};
 ghost use mathlib.Core.Bool.{not};
 ghost use Prim.Native.Nat.{_+_, _*_, _-_, _%_, _^_, _<_, _≤_};
 ghost use mathlib.Core.Option.{none};
-ghost use Rattle.index.specs.Checks.{numberOf};
+ghost use Rattle.refusals.specs.Checks.{numberOf};
 ghost use Rattle.index.specs.Settings.{byRule, defaultSettings, settingsRefusal, modulus, powerOfTwo, odd};
-ghost use Rattle.index.specs.Hash.{fnvStep, fnvPrime, fingerprintOf, fnv1a as hashOf};
+ghost use Rattle.index.specs.Hash.{fnvStep, fnvPrime, fingerprintOf, fnvFrom as hashFrom, fnv1a as hashOf};
 ghost use Rattle.index.specs.Candidates.{offset as offsetOf, across as acrossOf};
 ghost use Rattle.index.specs.Answers.{checkedIs, checkedSettings, tagEntryIs, entryOf, offsetIs, offsetAnswer, Lists, candidatesAnswer};
 
@@ -140,6 +140,9 @@ impl Settings {
     }
 }
 
+// The hash of no bytes.
+const FNV_START: u64 = 14695981039346656037;
+
 // h times the FNV prime, modulo 2^64. The prime is 2^40 + 435, and 435 is 16 times 27 and 3.
 fn times_prime(h: u64) -> u64
     ensures { λ r. ⌜ r ≡ h * fnvPrime % 2 ^ 64 ⌝ }
@@ -157,17 +160,24 @@ fn step(h: u64, b: u8) -> u64
     times_prime(h ^ (b as u64))
 }
 
-// The 64-bit FNV-1a hash of any bytes.
-pub fn fnv1a(bytes: &[u8]) -> u64
-    ensures { λ r. ⌜ r ≡ hashOf (now (bytes .entry)) ⌝ }
+// The hash that any bytes make of a hash before them.
+pub fn fnv_from(start: u64, bytes: &[u8]) -> u64
+    ensures { λ r. ⌜ r ≡ hashFrom start (now (bytes .entry)) ⌝ }
 {
-    let mut h = 14695981039346656037u64;
+    let mut h = start;
     let mut i = 0;
     while i < bytes.len() {
         h = step(h, bytes[i]);
         i += 1;
     }
     h
+}
+
+// The 64-bit FNV-1a hash of any bytes.
+pub fn fnv1a(bytes: &[u8]) -> u64
+    ensures { λ r. ⌜ r ≡ hashOf (now (bytes .entry)) ⌝ }
+{
+    fnv_from(FNV_START, bytes)
 }
 
 // A hash reduced to a bucket: a remainder under the ring rule, low bits where M is a power of two.
@@ -218,7 +228,7 @@ fn offset_of(s: Settings, p: u16) -> u32
 {
     let low = (p % 256) as u8;
     let high = (p / 256) as u8;
-    reduce(s, step(step(14695981039346656037, low), high))
+    reduce(s, step(step(FNV_START, low), high))
 }
 
 // The offset of any 16-bit value.

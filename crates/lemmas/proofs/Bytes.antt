@@ -109,3 +109,8 @@ pub drop-bytes : (k : ℕ) (l : List ℕ) → AllBytes l → AllBytes (drop k l)
 drop-bytes zero l a = a
 drop-bytes (suc k) [] a = tt
 drop-bytes (suc k) (b ∷ l) a = drop-bytes k l (a .1)
+
+pub take-bytes : (k : ℕ) (l : List ℕ) → AllBytes l → AllBytes (take k l)
+take-bytes zero l a = tt
+take-bytes (suc k) [] a = tt
+take-bytes (suc k) (b ∷ l) a = (a .0, take-bytes k l (a .1))

@@ -7,3 +7,4 @@ pub mod Powers
 pub mod Numbers
 pub mod Sums
 pub mod Bytes
+pub mod Digits

@@ -1,247 +1,312 @@
--- The reader's two loops: what the buckets still to come give, continued from here, is what the whole stream gives.
+-- The reader: a bucket's number and the filling from the bytes, and its two loops. The cells of the buckets so far, continued by what the
+-- rest of the stream gives, are what the whole stream gives.
 -- Assumes nothing.
 use mathlib.Core.Path.{_≡_, refl, sym, ap, ap₂, _∙_, subst}
-use mathlib.Core.Bool.{Bool, true, false, cond, not}
+use mathlib.Core.Bool.{Bool, true, false, not}
+use mathlib.Core.Logic.{_≢_}
 use mathlib.Core.Option.{Option, none, some}
 use mathlib.Core.List.{List, [], _∷_, _++_, append-assoc, append-nil}
-use Prim.Native.Nat.{ℕ, zero, suc, _+_, _*_, _-_, _/_, _%_, _^_, _≤_, _<_}
-use native.Mathlib.Nat.{mul-suc, mul-le-mul-left, div-one}
+use Prim.Native.Nat.{ℕ, suc, _+_, _*_, _-_, _/_, _%_, _^_, _≤_, _<_}
+use native.Mathlib.Decide.{decLe}
+use native.Mathlib.Nat.{add-zero, mul-suc, mul-le-mul, mul-le-mul-left, div-one, div-eq-of-lt}
 use native.Mathlib.Numerals.{add-one}
 use native.Mathlib.Omega.{arith}
-use borrow.Author.Tests.{le-leb, lt-leb}
+use borrow.Author.Tests.{le-leb, lt-leb, eq-eqb, ne-eqb}
+use borrow.Rule.Slice.PartMut.{midOf, putMid, same-len-mid}
+use lib.Bits.{bitAnd}
 use lib.Dec.{eqb, leb}
 use lib.ListN.{length, getD, take, drop, length-append, length-drop}
-use lib.Pow.{shr-shr}
-use lib.Seq.{length-take-le, take-at, take-all}
-use Rattle.lemmas.proofs.Bools.{cond-none}
-use Rattle.index.specs.Checks.{check, firstMet, Answer, refused, given, unless}
+use lib.Pow.{shr-shr, field, mod-mod-pow}
+use lib.Seq.{getD-drop, take-all}
+use Rattle.lemmas.specs.Bytes.{AllBytes, numberFrom}
+use Rattle.lemmas.proofs.Bytes.{number-drop, number-below}
+use Rattle.refusals.specs.Checks.{check, firstMet}
+use Rattle.refusals.specs.Outcomes.{Answer, refused, given, unless, outcome, keeping}
+use Rattle.refusals.proofs.Cursor.{by-check, by-none}
 use Rattle.index.specs.declared.Settings.{Settings}
-use Rattle.packed.specs.Writer.{bucketBits, packedLength}
-use Rattle.packed.specs.Reader.{Unpacked, stop, cells, bucketFrom, descends, codeChecks, onward, orStop, unpack, filledCount, readOut}
-use Rattle.packed.specs.Passing.{Passes}
+use Rattle.index.proofs.Laws.{laws}
+use Rattle.calls.specs.Cells.{filledCount}
+use Rattle.calls.specs.Calls.{Sound}
+use Rattle.packed_form.specs.Writer.{bucketBits, packedLength}
+use Rattle.packed_form.specs.Reader.{bucketFrom, codeChecks, onward, unpack, withCount, readPacked}
+use Rattle.packed_form.proofs.Filled.{filled-most, filled-append}
+use Rattle.packed_form.proofs.Refusals.{read-goes-on}
+use Rattle.packed_form.proofs.Streams.{unpack-more}
 use Rattle.packed.specs.declared.UnpackAnswer.{UnpackAnswer}
 use Rattle.packed.specs.Answers.{unpackIs}
-use Rattle.packed.proofs.Codes.{passed}
-use Rattle.packed.proofs.Streams.{unpack-more}
+use Rattle.packed.specs.Internal.{Width, Input, countIn, Passes}
+use Rattle.packed.proofs.Words.{masked}
+use Rattle.packed.proofs.Bytes.{half-bits, put-front, tail-put}
 
--- ── one bucket ──
-pub row-refused : (w code : ℕ) → 3876 ≤ code % 4096 → firstMet (codeChecks w code) ≡ some 18
-unfolding codeChecks
-row-refused w code h = rw (le-leb 3876 (code % 4096) h) refl
+-- ── the number of bucket b ──
+module _ (w b : ℕ) (bytes : List ℕ) (W : Width w) where
+  abbrev half : ℕ
+  half = (w - 1) * b
 
-pub order-refused : (w code : ℕ) → code % 4096 < 3876 → descends (bucketFrom w code) ≡ true → firstMet (codeChecks w code) ≡ some 19
-unfolding codeChecks
-order-refused w code h e = rw (lt-leb 3876 (code % 4096) h, e) refl
+  abbrev skip : ℕ
+  skip = half % 2 * 4
 
--- four cells that were read one by one
+  pub code-read : AllBytes bytes → (word : ℕ) → word ≡ numberFrom (drop (half / 2) bytes) % 2 ^ 64
+      → bitAnd (word / 2 ^ skip) (1 * 2 ^ (4 * (w - 1)) % 2 ^ 64 - 1) ≡ numberFrom bytes / 2 ^ (bucketBits w * b) % 2 ^ bucketBits w
+  unfolding bucketBits
+  code-read all word e =
+      let at : ℕ = half / 2 in
+      let size : ℕ = 4 * (w - 1) in
+      let x : ℕ = numberFrom bytes in
+      let y : ℕ = x / 2 ^ (8 * at) in
+      let j : ℕ = 64 - skip in
+      let k : ℕ = j - size in
+      let s2 : 64 ≡ j + skip = omega arith in
+      let s3 : j ≡ k + size = omega (arith, W .high) in
+      let s4 : 8 * at + skip ≡ 4 * (w - 1) * b = omega (arith, half-bits w b) in
+      let f : word ≡ y % 2 ^ (j + skip) = e ∙ ap₂ (λ (z n : ℕ). z % 2 ^ n) (sym (number-drop at bytes all)) s2 in
+      masked (word / 2 ^ skip) size (omega (arith, W .high))
+      ∙ ap (λ (z : ℕ). z / 2 ^ skip % 2 ^ size) f
+      ∙ ap (λ (z : ℕ). z % 2 ^ size) (field y j skip)
+      ∙ ap (λ (n : ℕ). y / 2 ^ skip % 2 ^ n % 2 ^ size) s3
+      ∙ mod-mod-pow (y / 2 ^ skip) k size
+      ∙ ap (λ (z : ℕ). z % 2 ^ size) (shr-shr x (8 * at) skip ∙ ap (λ (n : ℕ). x / 2 ^ n) s4)
+
+-- ── the input ──
+module _ {s : Settings} {bytes : List ℕ} (I : Input s bytes) where
+  abbrev halves : ℕ
+  halves = (s .width - 1) * s .buckets
+
+  length-is : length bytes ≡ (4 * halves + 7) / 8
+  unfolding packedLength
+  length-is = I .size ∙ ap (λ (z : ℕ). (z + 7) / 8) (half-bits (s .width) (s .buckets))
+
+  pub some-bytes : 1 ≤ length bytes
+  some-bytes =
+      let L = laws s (I .settings) in
+      let e : 1 * 1 ≤ halves = mul-le-mul {n₁ = 1} {m₁ = 1} (omega (arith, L .width-low)) (L .some-bucket) in
+      omega (arith, length-is)
+
+  -- the bits of bucket b lie in the bytes
+  pub bucket-inside : (b : ℕ) → b < s .buckets → bucketBits (s .width) * (b + 1) ≤ 8 * length bytes
+  unfolding packedLength
+  bucket-inside b h =
+      let f : bucketBits (s .width) * (b + 1) ≡ bucketBits (s .width) * suc b = ap (λ (z : ℕ). bucketBits (s .width) * z) (add-one b) in
+      omega (arith, I .size, mul-le-mul-left (bucketBits (s .width)) h)
+
+  -- ── the filling ──
+  module _ (all : AllBytes bytes) where
+    abbrev behind : ℕ
+    behind = numberFrom bytes / 2 ^ (bucketBits (s .width) * s .buckets)
+
+    pub filling-none : halves % 2 ≡ 0 → false ≡ not (eqb behind 0)
+    filling-none e =
+        let f : 4 * halves ≡ 8 * length bytes = omega (arith, length-is) in
+        let z : behind ≡ 0 = ap (λ (n : ℕ). numberFrom bytes / 2 ^ n) (half-bits (s .width) (s .buckets) ∙ f) ∙ div-eq-of-lt (number-below bytes all) in
+        sym (ap not (eq-eqb behind 0 z))
+
+    pub filling-last : halves % 2 ≢ 0 → leb 16 (getD bytes (length bytes - 1) 0) ≡ not (eqb behind 0)
+    filling-last n =
+        let at : ℕ = length bytes - 1 in
+        let v : ℕ = getD bytes at 0 in
+        let f : 4 * halves ≡ 8 * at + 4 = omega (arith, length-is) in
+        let one : length (drop at bytes) ≡ 1 = omega (arith, length-drop at bytes, some-bytes) in
+        let g : behind ≡ v / 16 =
+        ap (λ (k : ℕ). numberFrom bytes / 2 ^ k) (half-bits (s .width) (s .buckets) ∙ f) ∙ sym (shr-shr (numberFrom bytes) (8 * at) 4)
+        ∙ ap (λ (z : ℕ). z / 16) (number-drop at bytes all ∙ last-byte (drop at bytes) one ∙ getD-drop at bytes 0 0 ∙ ap (λ (k : ℕ). getD bytes k 0) (add-zero at)) in
+        rw g (tested v)
+      where
+        last-byte : (l : List ℕ) → length l ≡ 1 → numberFrom l ≡ getD l 0 0
+        last-byte [] e = absurd (omega arith)
+        last-byte (v ∷ []) e = omega arith
+        last-byte (v ∷ u ∷ l) e = absurd (omega arith)
+
+        tested : (v : ℕ) → leb 16 v ≡ not (eqb (v / 16) 0)
+        tested v = elim (decLe 16 v) [
+          | yes h ↦ le-leb 16 v h ∙ sym (ap not (ne-eqb (v / 16) 0 (omega arith)))
+          | no h ↦ lt-leb 16 v (omega arith) ∙ sym (ap not (eq-eqb (v / 16) 0 (omega arith)))
+        ]
+
+-- ── a bucket's four cells ──
+-- read one by one
 pub as-four : (w code : ℕ) (l : List ℕ) → l ≡ bucketFrom w code → getD l 0 0 ∷ getD l 1 0 ∷ getD l 2 0 ∷ getD l 3 0 ∷ [] ≡ bucketFrom w code
 unfolding bucketFrom
 as-four w code l e = ap (λ (k : List ℕ). getD k 0 0 ∷ getD k 1 0 ∷ getD k 2 0 ∷ getD k 3 0 ∷ []) e
-
-pub filled-one : (v : ℕ) → cond {A = ℕ} (eqb v 0) 0 1 ≤ 1
-filled-one v = go (eqb v 0)
-  where
-    go : (t : Bool) → cond {A = ℕ} t 0 1 ≤ 1
-    go true = omega arith
-    go false = omega arith
-
-filled-most : (l : List ℕ) → filledCount l ≤ length l
-filled-most [] = omega arith
-filled-most (v ∷ l) = omega (arith, filled-one v, filled-most l)
-
-filled-append : (l k : List ℕ) → filledCount (l ++ k) ≡ filledCount l + filledCount k
-filled-append [] k = omega arith
-filled-append (v ∷ l) k = omega (arith, filled-append l k)
 
 four-length : (w code : ℕ) → length (bucketFrom w code) ≡ 4
 unfolding bucketFrom
 four-length w code = refl
 
--- the bits of bucket b lie in the bytes
-pub bucket-inside : (s : Settings) (bytes : List ℕ) (b : ℕ) → length bytes ≡ packedLength s → b < s .buckets → bucketBits (s .width) * (b + 1) ≤ 8 * length bytes
-unfolding packedLength
-bucket-inside s bytes b e h =
-    let f : bucketBits (s .width) * (b + 1) ≡ bucketBits (s .width) * suc b = ap (λ (z : ℕ). bucketBits (s .width) * z) (add-one b) in
-    omega (arith, mul-le-mul-left (bucketBits (s .width)) h)
-
 -- ── a stream from bucket b on ──
+onward-none : (u : Answer (List ℕ)) → onward [] u ≡ u
+onward-none (refused n) = refl
+onward-none (given l) = refl
+
+onward-twice : (l k : List ℕ) (u : Answer (List ℕ)) → onward (l ++ k) u ≡ onward l (onward k u)
+onward-twice l k (refused n) = refl
+onward-twice l k (given m) = ap given (append-assoc l k m)
+
 module _ (w m x : ℕ) where
-  abbrev pub from : ℕ → ℕ
+  abbrev from : ℕ → ℕ
   from b = x / 2 ^ (bucketBits w * b)
 
-  abbrev pub coming : ℕ → Unpacked
+  abbrev coming : ℕ → Answer (List ℕ)
   coming b = unpack w (m - b) (from b)
-
-  from-none : from 0 ≡ x
-  from-none =
-      let e : bucketBits w * 0 ≡ 0 = omega arith in
-      ap (λ (k : ℕ). x / 2 ^ k) e ∙ div-one x
 
   coming-all : coming 0 ≡ unpack w m x
   coming-all =
       let e : m - 0 ≡ m = omega arith in
-      ap₂ (unpack w) e from-none
+      let f : bucketBits w * 0 ≡ 0 = omega arith in
+      ap₂ (unpack w) e (ap (λ (k : ℕ). x / 2 ^ k) f ∙ div-one x)
 
   from-next : (b : ℕ) → from b / 2 ^ bucketBits w ≡ from (b + 1)
   from-next b =
       let e : bucketBits w * (b + 1) ≡ bucketBits w * b + bucketBits w = ap (λ (z : ℕ). bucketBits w * z) (add-one b) ∙ mul-suc (bucketBits w) b in
       shr-shr x (bucketBits w * b) (bucketBits w) ∙ ap (λ (k : ℕ). x / 2 ^ k) (sym e)
 
-  coming-next : (b code : ℕ) → b < m → code ≡ from b % 2 ^ bucketBits w → coming b ≡ orStop (firstMet (codeChecks w code)) (onward (bucketFrom w code) (coming (b + 1)))
+  coming-next : (b code : ℕ) → b < m → code ≡ from b % 2 ^ bucketBits w → coming b ≡ unless (firstMet (codeChecks w code)) (onward (bucketFrom w code) (coming (b + 1)))
   coming-next b code h e =
       let k : m - b ≡ suc (m - (b + 1)) = omega arith in
       ap (λ (n : ℕ). unpack w n (from b)) k ∙ unpack-more w (m - (b + 1)) (from b)
-      ∙ ap₂ (λ (c y : ℕ). orStop (firstMet (codeChecks w c)) (onward (bucketFrom w c) (unpack w (m - (b + 1)) y))) (sym e) (from-next b)
+      ∙ ap₂ (λ (c y : ℕ). unless (firstMet (codeChecks w c)) (onward (bucketFrom w c) (unpack w (m - (b + 1)) y))) (sym e) (from-next b)
 
-  ended : (b : ℕ) → b ≡ m → coming b ≡ orStop (firstMet (check 20 (not (eqb (from m) 0)) ∷ [])) (cells [])
+  coming-none : (b : ℕ) → b ≡ m → coming b ≡ unless (firstMet (check 20 (not (eqb (from m) 0)) ∷ [])) (given [])
   unfolding unpack
-  ended b e =
+  coming-none b e =
       let k : m - m ≡ 0 = omega arith in
       ap coming e ∙ ap (λ (n : ℕ). unpack w n (from m)) k
 
--- ── the first pass: the answer, with so many filled cells counted ──
-abbrev after : ℕ → Unpacked → Answer ℕ
-after k (stop n) = refused n
-after k (cells l) = given (k + filledCount l)
-
-after-none : (u : Unpacked) → after 0 u ≡ readOut [] u .answer
-after-none (stop n) = refl
-after-none (cells l) = ap given (none-more (filledCount l))
-  where
-    none-more : (n : ℕ) → 0 + n ≡ n
-    none-more n = omega arith
-
-after-onward : (k n : ℕ) (four : List ℕ) (u : Unpacked) → n ≡ filledCount four → after (k + n) u ≡ after k (onward four u)
-after-onward k n four (stop i) e = refl
-after-onward k n four (cells l) e = ap given (omega (arith, filled-append four l))
-
--- an answer for one bucket, by its case
-refused-by : (o : Option ℕ) (n k : ℕ) → refused k ≡ unless o n → o ≡ some k
-refused-by none n k e = absurd (let z : _≡_ {A = ℕ} 0 1 = cc in omega arith)
-refused-by (some i) n k e = cc
-
-given-by : (o : Option ℕ) (n k : ℕ) → given k ≡ unless o n → (o ≡ none) × (k ≡ n)
-given-by none n k e = (refl, cc)
-given-by (some i) n k e = absurd (let z : _≡_ {A = ℕ} 0 1 = cc in omega arith)
-
-pub record Counted (w m x count b : ℕ) : Type 0 where
+-- l are the cells of the first b buckets
+pub record CellsRead (w m x b : ℕ) (l : List ℕ) : Type 0 where
   pub upto : b ≤ m
-  pub few : count ≤ 4 * b
-  pub onwards : after count (coming w m x b) ≡ readOut [] (unpack w m x) .answer
+  pub size : length l ≡ 4 * b
+  pub onwards : onward l (coming w m x b) ≡ unpack w m x
 
-pub counted-none : (w m x : ℕ) → Counted w m x 0 0
-counted-none w m x = record { upto = omega arith; few = omega arith; onwards = ap (after 0) (coming-all w m x) ∙ after-none (unpack w m x) }
+read-none : (w m x : ℕ) → CellsRead w m x 0 []
+read-none w m x = record { upto = omega arith; size = refl; onwards = onward-none (coming w m x 0) ∙ coming-all w m x }
 
-module _ (w m x count b : ℕ) (I : Counted w m x count b) where
-  module _ (more : b < m) (code : ℕ) (here : code ≡ from w m x b % 2 ^ bucketBits w) (found : UnpackAnswer)
-      (said : unpackIs found ≡ unless (firstMet (codeChecks w code)) (filledCount (bucketFrom w code))) where
-    pub counted-refused : (n : ℕ) → found ≡ UnpackAnswer.Refused n → unpackIs found ≡ readOut [] (unpack w m x) .answer
-    counted-refused n e =
-        let f : firstMet (codeChecks w code) ≡ some n = refused-by (firstMet (codeChecks w code)) (filledCount (bucketFrom w code)) n (sym (ap unpackIs e) ∙ said) in
-        ap unpackIs e
-        ∙ sym (ap (after count) (coming-next w m x b code more here ∙ ap (λ (o : Option ℕ). orStop o (onward (bucketFrom w code) (coming w m x (b + 1)))) f))
-        ∙ I .onwards
+module _ {w m x b : ℕ} {l : List ℕ} (R : CellsRead w m x b l) where
+  module _ (more : b < m) {code : ℕ} (here : code ≡ from w m x b % 2 ^ bucketBits w) where
+    here-is : (o : Option ℕ) → firstMet (codeChecks w code) ≡ o → onward l (unless o (onward (bucketFrom w code) (coming w m x (b + 1)))) ≡ unpack w m x
+    here-is o e = ap (onward l) (sym (coming-next w m x b code more here ∙ ap (λ (o : Option ℕ). unless o (onward (bucketFrom w code) (coming w m x (b + 1)))) e)) ∙ R .onwards
+
+    read-refused : (n : ℕ) → firstMet (codeChecks w code) ≡ some n → refused n ≡ unpack w m x
+    read-refused n e = here-is (some n) e
+
+    read-more : firstMet (codeChecks w code) ≡ none → CellsRead w m x (b + 1) (l ++ bucketFrom w code)
+    read-more e = record {
+      upto = omega arith;
+      size = omega (arith, length-append l (bucketFrom w code), four-length w code, R .size);
+      onwards = onward-twice l (bucketFrom w code) (coming w m x (b + 1)) ∙ here-is none e;
+    }
+
+  -- past the last bucket the filling decides
+  read-end : b ≡ m → (set : Bool) → set ≡ not (eqb (from w m x m) 0) → onward l (unless (firstMet (check 20 set ∷ [])) (given [])) ≡ unpack w m x
+  read-end all set said = ap (λ (t : Bool). onward l (unless (firstMet (check 20 t ∷ [])) (given []))) said ∙ ap (onward l) (sym (coming-none w m x b all)) ∙ R .onwards
+
+  read-all : b ≡ m → false ≡ not (eqb (from w m x m) 0) → given l ≡ unpack w m x
+  read-all all said = ap given (sym (append-nil l)) ∙ read-end all false said
+
+-- ── the first pass counts the filled cells of the buckets so far ──
+pub record CellsCounted (w m x count b : ℕ) : Type 0 where
+  pub cells : List ℕ
+  pub read : CellsRead w m x b cells
+  pub counted : count ≡ filledCount cells
+
+pub counted-none : (w m x : ℕ) → CellsCounted w m x 0 0
+counted-none w m x = record { cells = []; read = read-none w m x; counted = refl }
+
+module _ {w m x count b : ℕ} (I : CellsCounted w m x count b) where
+  module _ (more : b < m) {code : ℕ} (here : code ≡ from w m x b % 2 ^ bucketBits w) {found : UnpackAnswer}
+      (said : unpackIs found ≡ unless (firstMet (codeChecks w code)) (given (filledCount (bucketFrom w code)))) where
+    pub counted-refused : (n : ℕ) → found ≡ UnpackAnswer.Refused n → unpackIs found ≡ countIn (unpack w m x)
+    counted-refused n e = ap unpackIs e ∙ ap countIn (read-refused (I .read) more here n (by-check (firstMet (codeChecks w code)) _ (sym (ap unpackIs e) ∙ said)))
 
     module _ (n : ℕ) (e : found ≡ UnpackAnswer.Unpacked n) where
-      counted-found : (firstMet (codeChecks w code) ≡ none) × (n ≡ filledCount (bucketFrom w code))
-      counted-found = given-by (firstMet (codeChecks w code)) (filledCount (bucketFrom w code)) n (sym (ap unpackIs e) ∙ said)
+      passed : (firstMet (codeChecks w code) ≡ none) × (n ≡ filledCount (bucketFrom w code))
+      passed = by-none (firstMet (codeChecks w code)) (sym (ap unpackIs e) ∙ said)
 
-      pub counted-few : n ≤ 4
-      counted-few = omega (arith, counted-found .1, filled-most (bucketFrom w code), four-length w code)
+      pub counted-few : count + n ≤ 4 * m
+      counted-few = omega (arith, I .counted, filled-most (I .cells), I .read .size, passed .1, filled-most (bucketFrom w code), four-length w code)
 
-      pub counted-more : Counted w m x (count + n) (b + 1)
+      pub counted-more : CellsCounted w m x (count + n) (b + 1)
       counted-more = record {
-        upto = omega arith;
-        few = omega (arith, counted-few, I .few);
-        onwards =
-            after-onward count n (bucketFrom w code) (coming w m x (b + 1)) (counted-found .1)
-            ∙ sym (ap (after count) (coming-next w m x b code more here ∙ ap (λ (o : Option ℕ). orStop o (onward (bucketFrom w code) (coming w m x (b + 1)))) (counted-found .0)))
-            ∙ I .onwards;
+        cells = I .cells ++ bucketFrom w code;
+        read = read-more (I .read) more here (passed .0);
+        counted = omega (arith, I .counted, passed .1, filled-append (I .cells) (bucketFrom w code));
       }
 
-  module _ (all : b ≡ m) (set : Bool) (said : set ≡ not (eqb (from w m x m) 0)) where
-    finished : after count (orStop (firstMet (check 20 set ∷ [])) (cells [])) ≡ readOut [] (unpack w m x) .answer
-    finished = ap (λ (t : Bool). after count (orStop (firstMet (check 20 t ∷ [])) (cells []))) said ∙ sym (ap (after count) (ended w m x b all)) ∙ I .onwards
+  module _ (all : m ≤ b) {set : Bool} (said : set ≡ not (eqb (from w m x m) 0)) where
+    done : b ≡ m
+    done = omega (arith, I .read .upto)
 
-    pub counted-filling : set ≡ true → refused 20 ≡ readOut [] (unpack w m x) .answer
-    counted-filling e = sym (ap (λ (t : Bool). after count (orStop (firstMet (check 20 t ∷ [])) (cells []))) e) ∙ finished
+    pub counted-filling : set ≡ true → refused 20 ≡ countIn (unpack w m x)
+    counted-filling e = ap countIn (read-end (I .read) done true (sym e ∙ said))
 
-    pub counted-all : set ≡ false → given count ≡ readOut [] (unpack w m x) .answer
-    counted-all e =
-        let f : count + 0 ≡ count = omega arith in
-        ap given (sym f) ∙ sym (ap (λ (t : Bool). after count (orStop (firstMet (check 20 t ∷ [])) (cells []))) e) ∙ finished
+    pub counted-all : set ≡ false → given count ≡ countIn (unpack w m x)
+    counted-all e = ap given (I .counted) ∙ ap countIn (read-all (I .read) done (sym e ∙ said))
 
--- ── the second pass: the cells ──
-abbrev held : Unpacked → List ℕ
-held u = readOut [] u .cells
-
--- a stream that passes has passed in its first bucket and passes after it
-first-passed : (o : Option ℕ) (four : List ℕ) (u : Unpacked) → Passes (orStop o (onward four u)) → (o ≡ none) × Passes u
-first-passed (some n) four u p = absurd p
-first-passed none four (stop n) p = absurd p
-first-passed none four (cells l) p = (refl, tt)
-
-held-onward : (four : List ℕ) (u : Unpacked) → Passes u → held (onward four u) ≡ four ++ held u
-held-onward four (stop n) p = absurd p
-held-onward four (cells l) p = refl
-
-pub record Stored (w m x : ℕ) (table : List ℕ) (b : ℕ) : Type 0 where
-  pub upto : b ≤ m
+-- ── the second pass stores the cells of a stream that passes ──
+pub record CellsStored (w m x : ℕ) (table : List ℕ) (b : ℕ) : Type 0 where
   pub size : length table ≡ 4 * m
-  pub passes : Passes (coming w m x b)
-  pub onwards : take (4 * b) table ++ held (coming w m x b) ≡ held (unpack w m x)
+  pub read : CellsRead w m x b (take (4 * b) table)
 
-pub stored-none : (w m x : ℕ) (table : List ℕ) → length table ≡ 4 * m → Passes (unpack w m x) → Stored w m x table 0
-stored-none w m x table e p = record {
-  upto = omega arith;
-  size = e;
-  passes = subst Passes (sym (coming-all w m x)) p;
-  onwards = ap held (coming-all w m x);
-}
+pub stored-none : (w m x : ℕ) (table : List ℕ) → length table ≡ 4 * m → CellsStored w m x table 0
+stored-none w m x table e = record { size = e; read = read-none w m x }
 
-module _ (w m x : ℕ) (table : List ℕ) (b : ℕ) (I : Stored w m x table b) where
+module _ {w m x : ℕ} {table : List ℕ} {b : ℕ} (passes : Passes (unpack w m x)) (I : CellsStored w m x table b) where
   pub stored-within : 4 * b ≤ length table
-  stored-within = omega (arith, I .upto, I .size)
+  stored-within = omega (arith, I .read .upto, I .size)
 
-  module _ (more : b < m) (code : ℕ) (here : code ≡ from w m x b % 2 ^ bucketBits w) where
-    through : (firstMet (codeChecks w code) ≡ none) × Passes (coming w m x (b + 1))
-    through = first-passed (firstMet (codeChecks w code)) (bucketFrom w code) (coming w m x (b + 1)) (subst Passes (coming-next w m x b code more here) (I .passes))
-
-    pub stored-row : code % 4096 < 3876
-    stored-row = passed w code (through .0) .0
+  module _ (more : b < m) {code : ℕ} (here : code ≡ from w m x b % 2 ^ bucketBits w) where
+    pub stored-passes : firstMet (codeChecks w code) ≡ none
+    stored-passes = go (firstMet (codeChecks w code)) refl
+      where
+        go : (o : Option ℕ) → firstMet (codeChecks w code) ≡ o → firstMet (codeChecks w code) ≡ none
+        go none e = e
+        go (some n) e = absurd (subst Passes (sym (read-refused (I .read) more here n e)) passes)
 
     pub stored-room : 4 ≤ length (drop (4 * b) table)
     stored-room = omega (arith, length-drop (4 * b) table, I .size)
 
-    held-here : held (coming w m x b) ≡ bucketFrom w code ++ held (coming w m x (b + 1))
-    held-here =
-        ap held (coming-next w m x b code more here ∙ ap (λ (o : Option ℕ). orStop o (onward (bucketFrom w code) (coming w m x (b + 1)))) (through .0))
-        ∙ held-onward (bucketFrom w code) (coming w m x (b + 1)) (through .1)
+    pub stored-more : {f part : List ℕ} → f ≡ bucketFrom w code → part ≡ f ++ drop 4 (midOf (4 * b) (length table - 4 * b) table)
+        → length part ≡ length (midOf (4 * b) (length table - 4 * b) table) → CellsStored w m x (putMid (4 * b) (length table - 4 * b) table part) (b + 1)
+    stored-more {f} {part} four wrote kept =
+        let k : 4 * (b + 1) ≡ 4 * b + 4 = omega arith in
+        let e : take (4 * (b + 1)) (putMid (4 * b) (length table - 4 * b) table part) ≡ take (4 * b) table ++ bucketFrom w code =
+        rw k (put-front table (bucketFrom w code) (drop 4 (drop (4 * b) table)) _ (4 * b) 4 (four-length w code) stored-within
+        (tail-put table (4 * b) 4 (bucketFrom w code) part (wrote ∙ ap (λ (l : List ℕ). l ++ drop 4 (midOf (4 * b) (length table - 4 * b) table)) four))) in
+        record {
+          size = same-len-mid (4 * b) (length table - 4 * b) table part kept ∙ I .size;
+          read = subst (CellsRead w m x (b + 1)) (sym e) (read-more (I .read) more here stored-passes);
+        }
 
-    module _ (f next : List ℕ) (four : f ≡ bucketFrom w code) (wrote : next ≡ take (4 * b) table ++ (f ++ drop 4 (drop (4 * b) table))) where
-      front : length (take (4 * b) table ++ bucketFrom w code) ≡ 4 * (b + 1)
-      front = omega (arith, length-append (take (4 * b) table) (bucketFrom w code), length-take-le (4 * b) table stored-within, four-length w code)
+  pub stored-all : m ≤ b → given table ≡ unpack w m x
+  stored-all all = ap given (sym (take-all (4 * b) table (omega (arith, I .size)))) ∙ go (not (eqb (from w m x m) 0)) refl
+    where
+      end : b ≡ m
+      end = omega (arith, I .read .upto)
 
-      grouped : next ≡ take (4 * b) table ++ bucketFrom w code ++ drop 4 (drop (4 * b) table)
-      grouped = wrote ∙ ap (λ (l : List ℕ). take (4 * b) table ++ (l ++ drop 4 (drop (4 * b) table))) four ∙ sym (append-assoc (take (4 * b) table) (bucketFrom w code) (drop 4 (drop (4 * b) table)))
+      go : (t : Bool) → t ≡ not (eqb (from w m x m) 0) → given (take (4 * b) table) ≡ unpack w m x
+      go false e = read-all (I .read) end e
+      go true e = absurd (subst Passes (sym (read-end (I .read) end true e)) passes)
 
-      pub stored-more : Stored w m x next (b + 1)
-      stored-more = record {
-        upto = omega arith;
-        size = ap length grouped ∙ omega (arith, length-append (take (4 * b) table ++ bucketFrom w code) (drop 4 (drop (4 * b) table)), front, length-drop 4 (drop (4 * b) table), length-drop (4 * b) table, I .size);
-        passes = through .1;
-        onwards =
-            ap (λ (l : List ℕ). l ++ held (coming w m x (b + 1))) (ap (take (4 * (b + 1))) grouped ∙ take-at (take (4 * b) table ++ bucketFrom w code) (drop 4 (drop (4 * b) table)) (4 * (b + 1)) front)
-            ∙ append-assoc (take (4 * b) table) (bucketFrom w code) (held (coming w m x (b + 1)))
-            ∙ ap (λ (l : List ℕ). take (4 * b) table ++ l) (sym held-here) ∙ I .onwards;
-      }
+-- ── the whole call, by what the first pass answers ──
+module _ {s : Settings} {bytes t : List ℕ} (S : Sound s t) (I : Input s bytes) where
+  abbrev stream : Answer (List ℕ)
+  stream = unpack (s .width) (s .buckets) (numberFrom bytes)
 
-  nothing-held : (u : Unpacked) (t : Bool) → u ≡ orStop (firstMet (check 20 t ∷ [])) (cells []) → Passes u → held u ≡ []
-  nothing-held u true e p = absurd (subst Passes e p)
-  nothing-held u false e p = ap held e
+  pub call-stops : {a : UnpackAnswer} (n : ℕ) → a ≡ UnpackAnswer.Refused n → unpackIs a ≡ countIn stream → outcome (unpackIs a) t ≡ readPacked s bytes t
+  call-stops n e h = ap (λ (b : UnpackAnswer). outcome (unpackIs b) t) e ∙ go stream (sym (ap unpackIs e) ∙ h) ∙ read-goes-on s bytes t S (I .size)
+    where
+      go : (u : Answer (List ℕ)) → refused n ≡ countIn u → outcome (refused n) t ≡ keeping t (withCount u)
+      go (refused k) f = ap (λ (x : Answer ℕ). outcome x t) f
+      go (given l) f = absurd (let z : _≡_ {A = ℕ} 0 1 = cc in omega arith)
 
-  pub stored-all : b ≡ m → table ≡ held (unpack w m x)
-  stored-all e =
-      sym (append-nil table)
-      ∙ ap₂ _++_ (sym (take-all (4 * b) table (omega (arith, I .size)))) (sym (nothing-held (coming w m x b) (not (eqb (from w m x m) 0)) (ended w m x b e) (I .passes)))
-      ∙ I .onwards
+  pub call-passes : {a : UnpackAnswer} (n : ℕ) → a ≡ UnpackAnswer.Unpacked n → unpackIs a ≡ countIn stream → Passes stream
+  call-passes n e h = go stream (sym (ap unpackIs e) ∙ h)
+    where
+      go : (u : Answer (List ℕ)) → given n ≡ countIn u → Passes u
+      go (refused k) f = absurd (let z : _≡_ {A = ℕ} 0 1 = cc in omega arith)
+      go (given l) f = tt
+
+  pub call-stores : {a : UnpackAnswer} (n : ℕ) {o : List ℕ} → a ≡ UnpackAnswer.Unpacked n → unpackIs a ≡ countIn stream → given o ≡ stream
+      → outcome (given n) o ≡ readPacked s bytes t
+  call-stores n {o} e h f =
+      ap (λ (x : Answer ℕ). outcome x o) (sym (ap unpackIs e) ∙ h ∙ ap countIn (sym f))
+      ∙ ap (λ (u : Answer (List ℕ)). keeping t (withCount u)) f ∙ read-goes-on s bytes t S (I .size)

@@ -1,6 +1,4 @@
--- What a reader has to believe of the packed form (semi-sorted buckets): rows, the writer, the reader, and what they keep.
-pub mod Writer
-pub mod Reader
-pub mod RoundTrip
+-- What a reader has to believe of the packed form's code, whose definitions stand in packed_form: what its answers say. Internal is for
+-- the functions inside.
 pub mod Answers
-pub mod Passing
+pub mod Internal

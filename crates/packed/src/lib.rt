@@ -1,21 +1,23 @@
 // The packed form of a table: semi-sorted buckets as a stream of bits, and back.
 ghost use mathlib.Core.Path.{_≡_};
-ghost use mathlib.Core.Bool.{false, not, cond};
+ghost use mathlib.Core.Bool.{not, cond};
 ghost use mathlib.Core.List.{[], _∷_, _++_};
 ghost use mathlib.Core.Option.{none};
-ghost use Prim.Native.Nat.{_+_, _*_, _-_, _/_, _%_, _^_, _<_, _≤_, min, max};
+ghost use Prim.Native.Nat.{_+_, _*_, _/_, _%_, _^_, _<_, _≤_, min, max};
 ghost use lib.Dec.{eqb};
-ghost use lib.ListN.{length, getD, take, drop};
+ghost use lib.ListN.{length, getD, drop};
 ghost use Rattle.lemmas.specs.Bytes.{bytesOf, numberFrom};
-ghost use Rattle.index.specs.Checks.{firstMet, unless};
+ghost use Rattle.refusals.specs.Checks.{firstMet};
+ghost use Rattle.refusals.specs.Outcomes.{given, unless, outcome};
 ghost use Rattle.index.specs.Settings.{settingsRefusal};
 ghost use Rattle.rows.specs.Rows.{rows as allRows, larger, Ascends, rankOf};
-ghost use Rattle.table.specs.Writing.{anyFrom};
-ghost use Rattle.packed.specs.Writer.{sort4, sortBuckets, codeOf, bucketBits, streamOf, packedLength, packedOf, writePacked};
-ghost use Rattle.packed.specs.Reader.{bucketFrom, descends, codeChecks, filledCount, unpack, readOut, readPacked};
-ghost use Rattle.packed.specs.RoundTrip.{Packable};
-ghost use Rattle.packed.specs.Passing.{Passes};
+ghost use Rattle.calls.specs.Cells.{filledCount};
+ghost use Rattle.calls.specs.WrittenForms.{anyFrom};
+ghost use Rattle.packed_form.specs.Writer.{sort4, codeOf, bucketBits, packedLength, packedOf, writePacked};
+ghost use Rattle.packed_form.specs.Reader.{bucketFrom, descends, codeChecks, unpack, readPacked};
+ghost use Rattle.packed_form.specs.RoundTrip.{Packable};
 ghost use Rattle.packed.specs.Answers.{packIs, unpackIs};
+ghost use Rattle.packed.specs.Internal.{Width, BucketAsked, BucketAt, PairFits, PairPut, Input, Passes, countIn};
 use index::Settings;
 
 // The byte count, or the number of the refusal.
@@ -85,7 +87,7 @@ fn row_from(counts: &[u16; 48], a: u64, b: u64, c: u64, d: u64) -> u64
 
 // A sorted bucket as a number: its row, and above that the four low parts.
 fn code_of(counts: &[u16; 48], w: u32, a: u64, b: u64, c: u64, d: u64) -> u64
-    requires { ⌜ (now counts ≡ larger) × (4 ≤ w) × (w ≤ 16) × Ascends a b c d × (d < 2 ^ w) ⌝ }
+    requires { ⌜ (now counts ≡ larger) × Width w × Ascends a b c d × (d < 2 ^ w) ⌝ }
     ensures { λ r. ⌜ r ≡ codeOf w a b c d ⌝ }
 {
     let n = w - 4;
@@ -99,8 +101,8 @@ fn code_of(counts: &[u16; 48], w: u32, a: u64, b: u64, c: u64, d: u64) -> u64
 
 // The number of the bucket that starts at a cell, once it is sorted.
 fn bucket_code(counts: &[u16; 48], w: u32, table: &[u16], at: usize) -> u64
-    requires { ⌜ (now counts ≡ larger) × (4 ≤ w) × (w ≤ 16) × (at + 4 ≤ length (now table)) × (anyFrom (2 ^ w) (now table) ≡ false) ⌝ }
-    ensures { λ r. ⌜ (r < 2 ^ bucketBits w) × (streamOf w (sortBuckets (drop at (now (table .entry)))) ≡ r + 2 ^ bucketBits w * streamOf w (sortBuckets (drop (at + 4) (now (table .entry))))) ⌝ }
+    requires { ⌜ BucketAsked (now counts) w (now table) at ⌝ }
+    ensures { λ r. ⌜ BucketAt w (now (table .entry)) at r ⌝ }
 {
     let a = table[at] as u64;
     let b = table[at + 1] as u64;
@@ -142,8 +144,8 @@ fn emit_word(part: &mut [u8], word: u64)
 // Two buckets to the output: they take w − 1 whole bytes. While there is room, words are stored, whose
 // bytes past the two buckets belong to later ones; what stands past the room stays.
 fn write_pair(out: &mut [u8], room: usize, at: usize, w: u32, one: u64, two: u64)
-    requires { ⌜ (4 ≤ w) × (w ≤ 16) × (at + (w - 1) ≤ room) × (room ≤ length (now out)) × (room < 2 ^ 32) × (one < 2 ^ bucketBits w) × (two < 2 ^ bucketBits w) ⌝ }
-    ensures { λ r. ⌜ (take (at + (w - 1)) (now (out .exit)) ≡ take at (now (out .entry)) ++ bytesOf (w - 1) (one + 2 ^ bucketBits w * two)) × (drop room (now (out .exit)) ≡ drop room (now (out .entry))) ⌝ }
+    requires { ⌜ PairFits w one two at room (now out) ⌝ }
+    ensures { λ r. ⌜ PairPut w one two at room (now (out .entry)) (now (out .exit)) ⌝ }
 {
     let half = (w - 1) / 2;
     let skip = (w - 1) % 2 * 4;
@@ -190,7 +192,7 @@ fn write_buckets(s: Settings, table: &[u16], out: &mut [u8]) -> usize
 
 // Whether some cell does not fit the width: what stands above it is added up over all cells.
 fn too_wide(w: u32, table: &[u16]) -> bool
-    requires { ⌜ (4 ≤ w) × (w ≤ 16) × (length (now table) ≤ 262144) ⌝ }
+    requires { ⌜ Width w × (length (now table) ≤ 262144) ⌝ }
     ensures { λ r. ⌜ r ≡ anyFrom (2 ^ w) (now (table .entry)) ⌝ }
 {
     let mut over = 0u32;
@@ -215,15 +217,11 @@ fn packed_length(s: Settings) -> usize
 
 // The packed form of a table to the output, whose later bytes stay as they are.
 pub fn write(s: Settings, table: &[u16], out: &mut [u8]) -> PackAnswer
-    ensures { λ r. ⌜ record { answer = packIs r; output = now (out .exit) } ≡ writePacked s (now (table .entry)) (now (out .entry)) ⌝ }
+    ensures { λ r. ⌜ outcome (packIs r) (now (out .exit)) ≡ writePacked s (now (table .entry)) (now (out .entry)) ⌝ }
 {
-    let n = s.refusal();
+    let n = table::table_refusal(s, table);
     if n != 0 {
         return PackAnswer::Refused(n);
-    }
-    let cells = 4 * (s.buckets as usize);
-    if table.len() != cells {
-        return PackAnswer::Refused(5);
     }
     if too_wide(s.width, table) {
         return PackAnswer::Refused(17);
@@ -286,7 +284,7 @@ fn word_at(bytes: &[u8], at: usize) -> u64
 
 // The number of bucket b, from the bytes in which it lies.
 fn code_at(w: u32, bytes: &[u8], b: usize) -> u64
-    requires { ⌜ (4 ≤ w) × (w ≤ 16) × (b < 65536) × (bucketBits w * (b + 1) ≤ 8 * length (now bytes)) ⌝ }
+    requires { ⌜ Width w × (b < 65536) × (bucketBits w * (b + 1) ≤ 8 * length (now bytes)) ⌝ }
     ensures { λ r. ⌜ r ≡ numberFrom (now (bytes .entry)) / 2 ^ (bucketBits w * b) % 2 ^ bucketBits w ⌝ }
 {
     let half = ((w - 1) as usize) * b;
@@ -321,7 +319,7 @@ fn fields(n: u32, x: u64) -> u64
 
 // The four fingerprints of a bucket's number, made side by side in one word.
 fn bucket_from(quads: &[u16; 3876], w: u32, code: u64) -> [u16; 4]
-    requires { ⌜ (now quads ≡ allRows) × (4 ≤ w) × (w ≤ 16) × (code % 4096 < 3876) ⌝ }
+    requires { ⌜ (now quads ≡ allRows) × Width w × (code % 4096 < 3876) ⌝ }
     ensures { λ r. ⌜ r ≡ bucketFrom w code ⌝ }
 {
     let row = (code % 4096) as usize;
@@ -351,7 +349,7 @@ fn descending(a: u16, b: u16, c: u16, d: u16) -> bool
 
 // 1 for a filled cell.
 fn filled(v: u16) -> usize
-    ensures { λ r. ⌜ r ≡ cond (eqb v 0) 0 1 ⌝ }
+    ensures { λ r. ⌜ (r ≡ cond (eqb v 0) 0 1) × (r ≤ 1) ⌝ }
 {
     if v == 0 { 0 } else { 1 }
 }
@@ -365,8 +363,8 @@ fn filled_of(a: u16, b: u16, c: u16, d: u16) -> usize
 
 // One bucket checked: how many of its cells are filled, or the number of the refusal.
 fn check_code(quads: &[u16; 3876], w: u32, code: u64) -> UnpackAnswer
-    requires { ⌜ (now quads ≡ allRows) × (4 ≤ w) × (w ≤ 16) ⌝ }
-    ensures { λ r. ⌜ unpackIs r ≡ unless (firstMet (codeChecks w code)) (filledCount (bucketFrom w code)) ⌝ }
+    requires { ⌜ (now quads ≡ allRows) × Width w ⌝ }
+    ensures { λ r. ⌜ unpackIs r ≡ unless (firstMet (codeChecks w code)) (given (filledCount (bucketFrom w code))) ⌝ }
 {
     if code % 4096 >= 3876 {
         return UnpackAnswer::Refused(18);
@@ -380,7 +378,7 @@ fn check_code(quads: &[u16; 3876], w: u32, code: u64) -> UnpackAnswer
 
 // Whether a bit behind the last bucket is set: there are four if the buckets take an odd number of half bytes.
 fn filling_set(s: Settings, bytes: &[u8]) -> bool
-    requires { ⌜ (settingsRefusal s ≡ none) × (length (now bytes) ≡ packedLength s) ⌝ }
+    requires { ⌜ Input s (now bytes) ⌝ }
     ensures { λ r. ⌜ r ≡ not (eqb (numberFrom (now (bytes .entry)) / 2 ^ (bucketBits (s .width) * s .buckets)) 0) ⌝ }
 {
     let w = s.width;
@@ -395,8 +393,8 @@ fn filling_set(s: Settings, bytes: &[u8]) -> bool
 
 // Every bucket checked and the filling after them, with the table still untouched. The answer is the reader's.
 fn check_buckets(quads: &[u16; 3876], s: Settings, bytes: &[u8]) -> UnpackAnswer
-    requires { ⌜ (now quads ≡ allRows) × (settingsRefusal s ≡ none) × (length (now bytes) ≡ packedLength s) ⌝ }
-    ensures { λ r. ⌜ unpackIs r ≡ readOut [] (unpack (s .width) (s .buckets) (numberFrom (now (bytes .entry)))) .answer ⌝ }
+    requires { ⌜ (now quads ≡ allRows) × Input s (now bytes) ⌝ }
+    ensures { λ r. ⌜ unpackIs r ≡ countIn (unpack (s .width) (s .buckets) (numberFrom (now (bytes .entry)))) ⌝ }
 {
     let w = s.width;
     let m = s.buckets as usize;
@@ -430,8 +428,8 @@ fn put(part: &mut [u16], a: u16, b: u16, c: u16, d: u16)
 
 // Every bucket of a stream that passed, to the table.
 fn store_buckets(quads: &[u16; 3876], s: Settings, bytes: &[u8], table: &mut [u16])
-    requires { ⌜ (now quads ≡ allRows) × (settingsRefusal s ≡ none) × (length (now bytes) ≡ packedLength s) × (length (now table) ≡ 4 * s .buckets) × Passes (unpack (s .width) (s .buckets) (numberFrom (now bytes))) ⌝ }
-    ensures { λ r. ⌜ now (table .exit) ≡ readOut [] (unpack (s .width) (s .buckets) (numberFrom (now (bytes .entry)))) .cells ⌝ }
+    requires { ⌜ (now quads ≡ allRows) × Input s (now bytes) × (length (now table) ≡ 4 * s .buckets) × Passes (unpack (s .width) (s .buckets) (numberFrom (now bytes))) ⌝ }
+    ensures { λ r. ⌜ given (now (table .exit)) ≡ unpack (s .width) (s .buckets) (numberFrom (now (bytes .entry))) ⌝ }
 {
     let w = s.width;
     let m = s.buckets as usize;
@@ -447,15 +445,11 @@ fn store_buckets(quads: &[u16; 3876], s: Settings, bytes: &[u8], table: &mut [u1
 
 // The table that a packed form has, its buckets sorted. The table is written once the whole input has passed.
 pub fn read(s: Settings, bytes: &[u8], table: &mut [u16]) -> UnpackAnswer
-    ensures { λ r. ⌜ record { answer = unpackIs r; cells = now (table .exit) } ≡ readPacked s (now (bytes .entry)) (now (table .entry)) ⌝ }
+    ensures { λ r. ⌜ outcome (unpackIs r) (now (table .exit)) ≡ readPacked s (now (bytes .entry)) (now (table .entry)) ⌝ }
 {
-    let n = s.refusal();
+    let n = table::table_refusal(s, table);
     if n != 0 {
         return UnpackAnswer::Refused(n);
-    }
-    let cells = 4 * (s.buckets as usize);
-    if table.len() != cells {
-        return UnpackAnswer::Refused(5);
     }
     let needed = packed_length(s);
     if bytes.len() < needed {

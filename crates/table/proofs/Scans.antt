@@ -1,20 +1,20 @@
 -- The scan as the code makes it: four tests in a row, and one bucket of a list after the other.
 -- Assumes nothing.
-use mathlib.Core.Path.{_≡_, refl, sym, ap, subst, _∙_}
+use mathlib.Core.Path.{_≡_, refl, sym, ap, _∙_}
 use mathlib.Core.Logic.{_≢_}
 use mathlib.Core.Bool.{Bool, true, false, cond}
 use mathlib.Core.Option.{Option, none, some}
 use mathlib.Core.List.{List, [], _∷_}
-use Prim.Native.Nat.{ℕ, zero, suc, _+_, _*_, _≤_, _<_}
+use Prim.Native.Nat.{ℕ, suc, _+_, _*_, _≤_, _<_}
 use native.Mathlib.Numerals.{add-one}
 use native.Mathlib.Omega.{arith}
 use borrow.Author.Tests.{eq-eqb, ne-eqb}
 use lib.Dec.{eqb}
-use lib.ListN.{length, getD, take, drop, drop-of-length-le}
+use lib.ListN.{length, getD, take, drop, drop-of-length-le, take-append-drop}
 use lib.Seq.{drop-cons, length-take-le, getD-take}
-use Rattle.lemmas.specs.Count.{_among_}
-use Rattle.lemmas.proofs.Count.{hit-refl}
-use Rattle.table.specs.Cells.{cell, scan, orElse, inFirst}
+use Rattle.lemmas.specs.Count.{occ, _among_}
+use Rattle.lemmas.proofs.Count.{occ-append, hit-refl}
+use Rattle.calls.specs.Cells.{cell, scan, orElse, inFirst}
 
 -- ── the tests ──
 module _ (c : List ℕ) (p b : ℕ) where
@@ -41,26 +41,40 @@ module _ (c : List ℕ) (p b : ℕ) where
         pub scan-nowhere : cell c (4 * b + 3) ≢ p → none ≡ scan c p b
         scan-nowhere n3 = scanned false false false false (ne-eqb _ _ n0) (ne-eqb _ _ n1) (ne-eqb _ _ n2) (ne-eqb _ _ n3)
 
--- ── the buckets in turn ──
-at-among : (l : List ℕ) (k : ℕ) → k < length l → getD l k 0 among l
-at-among [] k h = absurd (omega arith)
-at-among (x ∷ l) zero h = omega (arith, hit-refl x)
-at-among (x ∷ l) (suc k) h = omega (arith, at-among l k (omega arith))
+-- ── the first n of a list, one after the other ──
+pub next-of : (bs : List ℕ) (n k : ℕ) → n ≤ length bs → k < n → drop k (take n bs) ≡ getD bs k 0 ∷ drop (k + 1) (take n bs)
+next-of bs n k l h =
+    drop-cons (take n bs) k 0 (omega (arith, length-take-le n bs l))
+    ∙ rw (add-one k) (ap (λ (x : ℕ). x ∷ drop (suc k) (take n bs)) (getD-take n bs k 0 h))
 
-module _ (f : ℕ → Option ℕ) (bs : List ℕ) (n k : ℕ) (few : n ≤ length bs) where
-  -- the first n buckets end with none found
-  pub turns-end : n ≤ k → inFirst f (drop k (take n bs)) ≡ none
-  turns-end h = ap (inFirst f) (drop-of-length-le (take n bs) {i = k} (omega (arith, length-take-le n bs few)))
+pub none-left : (bs : List ℕ) (n k : ℕ) → n ≤ length bs → n ≤ k → drop k (take n bs) ≡ []
+none-left bs n k l h = drop-of-length-le (take n bs) {i = k} (omega (arith, length-take-le n bs l))
+
+pub next-among : (xs : List ℕ) (j x : ℕ) → drop j xs ≡ x ∷ drop (j + 1) xs → x among xs
+next-among xs j x e = omega (arith, ap (occ x) (sym (take-append-drop j xs)) ∙ occ-append x (take j xs) (drop j xs), ap (occ x) e, hit-refl x)
+
+-- ── the buckets in turn: bucket k of the first n, at most four, and none before it gave anything ──
+pub record Turn (f : ℕ → Option ℕ) (bs : List ℕ) (n k : ℕ) : Type 0 where
+  pub few : n ≤ 4
+  pub four : length bs ≡ 4
+  pub same : inFirst f (drop k (take n bs)) ≡ inFirst f (take n bs)
+
+module _ {f : ℕ → Option ℕ} {bs : List ℕ} {n k : ℕ} (K : Turn f bs n k) where
+  counted : n ≤ length bs
+  counted = omega (arith, K .few, K .four)
+
+  pub turns-end : n ≤ k → none ≡ inFirst f (take n bs)
+  turns-end h = sym (ap (inFirst f) (none-left bs n k counted h)) ∙ K .same
 
   module _ (h : k < n) where
     pub turn-among : getD bs k 0 among take n bs
-    turn-among = subst (λ (x : ℕ). x among take n bs) (getD-take n bs k 0 h) (at-among (take n bs) k (omega (arith, length-take-le n bs few)))
+    turn-among = next-among (take n bs) k _ (next-of bs n k counted h)
 
-    turn : inFirst f (drop k (take n bs)) ≡ orElse (f (getD bs k 0)) (inFirst f (drop (suc k) (take n bs)))
-    turn = ap (inFirst f) (drop-cons (take n bs) k 0 (omega (arith, length-take-le n bs few))) ∙ ap (λ (x : ℕ). orElse (f x) (inFirst f (drop (suc k) (take n bs)))) (getD-take n bs k 0 h)
+    given : {o : Option ℕ} → f (getD bs k 0) ≡ o → orElse o (inFirst f (drop (k + 1) (take n bs))) ≡ inFirst f (take n bs)
+    given e = rw (sym e) (sym (ap (inFirst f) (next-of bs n k counted h)) ∙ K .same)
 
-    pub turn-found : (i : ℕ) → f (getD bs k 0) ≡ some i → inFirst f (drop k (take n bs)) ≡ some i
-    turn-found i e = turn ∙ ap (λ (o : Option ℕ). orElse o (inFirst f (drop (suc k) (take n bs)))) e
+    pub turn-found : {i : ℕ} → f (getD bs k 0) ≡ some i → some i ≡ inFirst f (take n bs)
+    turn-found e = given e
 
-    pub turn-none : f (getD bs k 0) ≡ none → inFirst f (drop k (take n bs)) ≡ inFirst f (drop (k + 1) (take n bs))
-    turn-none e = turn ∙ ap (λ (o : Option ℕ). orElse o (inFirst f (drop (suc k) (take n bs)))) e ∙ ap (λ (j : ℕ). inFirst f (drop j (take n bs))) (sym (add-one k))
+    pub turn-none : f (getD bs k 0) ≡ none → Turn f bs n (k + 1)
+    turn-none e = record { few = K .few; four = K .four; same = given e }

@@ -12,12 +12,12 @@ use borrow.Author.Tests.{eqb-true, eqb-false, eq-eqb, ne-eqb, lt-ltb, le-ltb}
 use lib.Dec.{eqb, ltb}
 use lib.ListN.{length, getD, set, length-append, length-set, List·getD-append}
 use lib.Seq.{getD-set-same, getD-set-other, getD-at}
-use Rattle.table.specs.Cells.{lowestEmpty}
-use Rattle.table.specs.Search.{Node, node, marked}
-use Rattle.table.specs.Answers.{placeIs}
+use Rattle.calls.specs.Cells.{lowestEmpty}
+use Rattle.calls.specs.Search.{Node, node, marked}
 use Rattle.table.specs.declared.Place.{Place}
-use Rattle.table.specs.Scratch.{bucketIn, parentIn, placeIn, originIn, nodeIn, queueIn, pathIn, Sparse, reached, Queues, Visits}
-use Rattle.table.proofs.Nodes.{Distinct, distinct-none, distinct-more, distinct-room}
+use Rattle.table.specs.Internal.{placeIs, bucketIn, parentIn, placeIn, originIn, nodeIn, queueIn, pathIn, Sparse, reached, Queues, Visits}
+use Rattle.calls.specs.Laws.{Distinct}
+use Rattle.calls.proofs.Laws.{queue-laws}
 
 -- ── the queue of the first t entries ──
 pub queue-length : (m : ℕ) (w : List ℕ) (roots t : ℕ) → length (queueIn m w roots t) ≡ t
@@ -55,7 +55,7 @@ marked-more b (x ∷ q) n = rw (marked-more b q n) (go (eqb (x .bucket) b))
     go false = refl
 
 -- an entry that names b marks it
-pub marked-in : (m : ℕ) (w : List ℕ) (roots t b i : ℕ) → i < t → bucketIn w i ≡ b → marked b (queueIn m w roots t) ≡ true
+marked-in : (m : ℕ) (w : List ℕ) (roots t b i : ℕ) → i < t → bucketIn w i ≡ b → marked b (queueIn m w roots t) ≡ true
 unfolding queueIn
 marked-in m w roots zero b i h e = absurd (omega arith)
 marked-in m w roots (suc t) b i h e =
@@ -70,7 +70,7 @@ marked-in m w roots (suc t) b i h e =
     go (no l) rec = let z : t ≡ i = omega arith in rw (eq-eqb (bucketIn w t) b (ap (bucketIn w) z ∙ e)) (both (marked b (queueIn m w roots t)))
 
 -- with no such entry it is not marked
-pub marked-out : (m : ℕ) (w : List ℕ) (roots t b : ℕ) → ((i : ℕ) → i < t → bucketIn w i ≡ b → ⊥) → marked b (queueIn m w roots t) ≡ false
+marked-out : (m : ℕ) (w : List ℕ) (roots t b : ℕ) → ((i : ℕ) → i < t → bucketIn w i ≡ b → ⊥) → marked b (queueIn m w roots t) ≡ false
 unfolding queueIn
 marked-out m w roots zero b no-entry = refl
 marked-out m w roots (suc t) b no-entry =
@@ -80,11 +80,7 @@ marked-out m w roots (suc t) b no-entry =
 pub unmarked : (m : ℕ) (w : List ℕ) (roots t b i : ℕ) → marked b (queueIn m w roots t) ≡ false → i < t → bucketIn w i ≡ b → ⊥
 unmarked m w roots t b i un h e = let z : true ≡ false = sym (marked-in m w roots t b i h e) ∙ un in let y : _≡_ {A = ℕ} 0 1 = cc in omega arith
 
--- a mark does not depend on which entries are roots
-pub unmarked-any : (m : ℕ) (w : List ℕ) (roots others t b : ℕ) → marked b (queueIn m w roots t) ≡ false → marked b (queueIn m w others t) ≡ false
-unmarked-any m w roots others t b un = marked-out m w others t b (λ i h e. unmarked m w roots t b i un h e)
-
-module _ (m : ℕ) (w : List ℕ) (t : ℕ) (sp : Sparse m w t) where
+module _ {m : ℕ} {w : List ℕ} {t : ℕ} (sp : Sparse m w t) where
   -- ── what the test of a mark finds ──
   module _ (b : ℕ) where
     back-of : (i : ℕ) → i < t → bucketIn w i ≡ b → getD w (m + b) 0 / 4 ≡ i
@@ -103,13 +99,13 @@ module _ (m : ℕ) (w : List ℕ) (t : ℕ) (sp : Sparse m w t) where
   -- ── no bucket stands twice, so that there is room for one that is not marked ──
   distinct-upto : (roots k : ℕ) → k ≤ t → Distinct m (queueIn m w roots k)
   unfolding queueIn
-  distinct-upto roots zero h = distinct-none m
+  distinct-upto roots zero h = queue-laws m .starts
   distinct-upto roots (suc k) h =
-      distinct-more m (queueIn m w roots k) (nodeIn m w roots (queueIn m w roots k) k) (distinct-upto roots k (omega arith)) (sp .low k (omega arith))
+      queue-laws m .grows (queueIn m w roots k) (nodeIn m w roots (queueIn m w roots k) k) (distinct-upto roots k (omega arith)) (sp .low k (omega arith))
       (marked-out m w roots k (bucketIn w k) λ i l q. omega (arith, sp .back i (omega arith), sp .back k (omega arith), ap (λ (x : ℕ). getD w (m + x) 0 / 4) q))
 
   pub sparse-room : (roots b : ℕ) → b < m → marked b (queueIn m w roots t) ≡ false → t < m
-  sparse-room roots b l e = omega (arith, distinct-room m (queueIn m w roots t) (node b []) (distinct-upto roots t (omega arith)) l e, queue-length m w roots t)
+  sparse-room roots b l e = omega (arith, queue-laws m .room (queueIn m w roots t) (node b []) (distinct-upto roots t (omega arith)) l e, queue-length m w roots t)
 
 -- fewer entries are a sparse set too
 pub sparse-less : {m : ℕ} {w : List ℕ} {t : ℕ} (k : ℕ) → k ≤ t → Sparse m w t → Sparse m w k
@@ -218,7 +214,7 @@ module _ (m : ℕ) (w : List ℕ) (t b h k : ℕ) (sp : Sparse m w t) (hb : b < 
   }
 
 -- ── a bucket is looked at: it was marked, or it is queued ──
-module _ (c : List ℕ) (m b h k : ℕ) (w : List ℕ) (t : ℕ) where
+module _ {c : List ℕ} {m b h k : ℕ} {w : List ℕ} {t : ℕ} where
   pub visit-marked : ((roots : ℕ) → true ≡ marked b (queueIn m w roots t)) → Sparse m w t → Visits c m b h k w t w (record { tail = t; place = Place.Nowhere })
   visit-marked e sp = record { sparse = sp; grows = omega arith; queue = λ roots o l. rw (sym (e roots)); place = λ roots. rw (sym (e roots)) }
 
@@ -254,9 +250,9 @@ module _ (m : ℕ) (w : List ℕ) (roots : ℕ) where
   path-later i h l = rw (path-node i, le-ltb i roots h, path-at i (parentIn w i) l)
 
 -- the cell of an entry from its three words
-pub origin-is : (m : ℕ) (w : List ℕ) (i x y z : ℕ) → Sparse m w (i + 1) → x ≡ getD w i 0 → y ≡ getD w (m + x % 65536) 0 → z ≡ getD w (x / 65536) 0
+pub origin-is : {m : ℕ} {w : List ℕ} (i : ℕ) {x y z : ℕ} → Sparse m w (i + 1) → x ≡ getD w i 0 → y ≡ getD w (m + x % 65536) 0 → z ≡ getD w (x / 65536) 0
     → (4 * (z % 65536) + y % 4 < 4 * m) × (4 * (z % 65536) + y % 4 ≡ originIn m w i)
-origin-is m w i x y z sp e f g =
+origin-is {m} {w} i {y = y} {z = z} sp e f g =
     let b : z % 65536 ≡ bucketIn w (parentIn w i) = ap (λ v. v % 65536) (g ∙ ap (λ v. getD w (v / 65536) 0) e) in
     let k : y % 4 ≡ placeIn m w i = ap (λ v. v % 4) (f ∙ ap (λ v. getD w (m + v % 65536) 0) e) in
     (omega (arith, sp .low (parentIn w i) (omega (arith, sp .older i (omega arith)))), omega arith)

@@ -1,42 +1,44 @@
--- What the calls answer: for each case of an answer's type what document 01 says there, and what a call's contract promises.
+-- What the calls answer: for each case of an answer's type what document 01 says there, and what a hold's contract promises.
 -- Assumes nothing.
 use mathlib.Core.Path.{_≡_}
-use mathlib.Core.Option.{Option, none, some}
+use mathlib.Core.Option.{some}
 use mathlib.Core.List.{List}
-use Prim.Native.Nat.{ℕ}
+use Prim.Native.Nat.{ℕ, _+_, _*_}
 use lib.ListN.{length}
+use Rattle.refusals.specs.Checks.{firstMet}
+use Rattle.refusals.specs.Outcomes.{Answer, refused, given, outcome}
 use Rattle.index.specs.declared.Settings.{Settings}
-use Rattle.table.specs.Calls.{Reply, refused, cleared, held, clear, released, absent, accepted, result, hold, holdRefusal}
-use Rattle.table.specs.declared.Place.{Place}
+use Rattle.calls.specs.Calls.{Said, cleared, held, clear, released, absent, accepted, hold, holdChecks, viewed, viewNumber}
 use Rattle.table.specs.declared.ClearAnswer.{ClearAnswer}
 use Rattle.table.specs.declared.LookupAnswer.{LookupAnswer}
 use Rattle.table.specs.declared.ReleaseAnswer.{ReleaseAnswer}
 use Rattle.table.specs.declared.HoldAnswer.{HoldAnswer}
 
--- a cell that was looked for
-abbrev pub placeIs : Place → Option ℕ
-placeIs (Place.At i) = some i
-placeIs Place.Nowhere = none
-
-abbrev pub clearIs : ClearAnswer → Reply
-clearIs ClearAnswer.Cleared = cleared
+abbrev pub clearIs : ClearAnswer → Answer Said
+clearIs ClearAnswer.Cleared = given cleared
 clearIs (ClearAnswer.Refused n) = refused n
 
-abbrev pub lookupIs : LookupAnswer → Reply
-lookupIs LookupAnswer.Held = held
-lookupIs LookupAnswer.Clear = clear
+abbrev pub lookupIs : LookupAnswer → Answer Said
+lookupIs LookupAnswer.Held = given held
+lookupIs LookupAnswer.Clear = given clear
 lookupIs (LookupAnswer.Refused n) = refused n
 
-abbrev pub releaseIs : ReleaseAnswer → Reply
-releaseIs ReleaseAnswer.Released = released
-releaseIs ReleaseAnswer.Absent = absent
+abbrev pub releaseIs : ReleaseAnswer → Answer Said
+releaseIs ReleaseAnswer.Released = given released
+releaseIs ReleaseAnswer.Absent = given absent
 releaseIs (ReleaseAnswer.Refused n) = refused n
 
-abbrev pub holdIs : HoldAnswer → Reply
-holdIs (HoldAnswer.Accepted n) = accepted n
+abbrev pub holdIs : HoldAnswer → Answer Said
+holdIs (HoldAnswer.Accepted n) = given (accepted n)
 holdIs (HoldAnswer.Refused n) = refused n
+
+-- a view: the bucket's four cells, none where it is refused; and where it is good they are the caller's own, eight bytes for each bucket
+-- before them behind the table's start. A place is a block of memory and a byte in it
+pub record Views (s : Settings) (c : List ℕ) (b : ℕ) (table part : ℕ × ℕ) (cells : List ℕ) : Type 0 where
+  pub values : cells ≡ viewed s c b
+  pub place : viewNumber s c b ≡ 0 → part ≡ (table .0, table .1 + 2 * (4 * b))
 
 -- a hold: its answer and every cell, and scratch as it was where a check refused the call
 pub record Holds (r : HoldAnswer) (s : Settings) (c c′ w w′ tag : List ℕ) : Type 0 where
-  pub does : result (holdIs r) c′ ≡ hold s c (length w) tag
-  pub keeps : (n : ℕ) → holdRefusal s c (length w) tag ≡ some n → w′ ≡ w
+  pub does : outcome (holdIs r) c′ ≡ hold s c (length w) tag
+  pub keeps : (n : ℕ) → firstMet (holdChecks s c (length w) tag) ≡ some n → w′ ≡ w

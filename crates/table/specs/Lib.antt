@@ -1,10 +1,4 @@
--- What a reader has to believe of the table: cells, search, calls, answers, the reference model, and demand 3.
-pub mod Cells
-pub mod Search
-pub mod Calls
+-- What a reader has to believe of the code's answers (Answers), and the contracts of the functions inside (Internal). What the calls do
+-- is defined in the crate calls.
 pub mod Answers
-pub mod Scratch
-pub mod Assign
-pub mod Model
-pub mod Demand
-pub mod Writing
+pub mod Internal

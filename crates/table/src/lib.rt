@@ -1,13 +1,16 @@
 // The table of a cuckoo filter: clear, lookup, release, hold and the bucket view over cells that the
 // caller lends. Bucket b is cells 4b to 4b + 3, and 0 is an empty cell.
 ghost use mathlib.Core.Path.{_≡_};
+ghost use denote.Ref.{ptr};
 ghost use Prim.Native.Nat.{ℕ, _+_, _*_, _%_, _<_, _≤_};
 ghost use lib.ListN.{length, take, set};
 ghost use Rattle.lemmas.specs.Count.{_among_};
-ghost use Rattle.index.specs.Checks.{numberOf};
-ghost use Rattle.table.specs.Cells.{scan as scanOf, inFirst};
-ghost use Rattle.table.specs.Calls.{result, clearRefusal, clearTable, lookup as lookupOf, release as releaseOf, viewed, viewNumber};
-ghost use Rattle.table.specs.Answers.{placeIs, clearIs, lookupIs, releaseIs};
+ghost use Rattle.refusals.specs.Checks.{firstMet, numberOf};
+ghost use Rattle.refusals.specs.Outcomes.{outcome};
+ghost use Rattle.calls.specs.Cells.{scan as scanOf, inFirst, filledCount};
+ghost use Rattle.calls.specs.Calls.{tableChecks, clearTable, lookup as lookupOf, release as releaseOf, viewNumber};
+ghost use Rattle.table.specs.Answers.{clearIs, lookupIs, releaseIs, Views};
+ghost use Rattle.table.specs.Internal.{placeIs};
 use index::CandidateList;
 use index::Settings;
 use index::TagEntry;
@@ -60,7 +63,7 @@ pub enum HoldAnswer {
 
 // The number that refuses the settings or the table, 0 where both pass. Every form of a table checks by it.
 pub fn table_refusal(s: Settings, table: &[u16]) -> u32
-    ensures { λ r. ⌜ r ≡ numberOf (clearRefusal s (now (table .entry))) ⌝ }
+    ensures { λ r. ⌜ r ≡ numberOf (firstMet (tableChecks s (now (table .entry)))) ⌝ }
 {
     let n = s.refusal();
     if n != 0 {
@@ -133,7 +136,7 @@ fn write_cell(table: &mut [u16], at: usize, v: u16)
 
 // Every cell empty.
 pub fn clear(s: Settings, table: &mut [u16]) -> ClearAnswer
-    ensures { λ r. ⌜ result (clearIs r) (now (table .exit)) ≡ clearTable s (now (table .entry)) ⌝ }
+    ensures { λ r. ⌜ outcome (clearIs r) (now (table .exit)) ≡ clearTable s (now (table .entry)) ⌝ }
 {
     let n = table_refusal(s, table);
     if n != 0 {
@@ -147,9 +150,24 @@ pub fn clear(s: Settings, table: &mut [u16]) -> ClearAnswer
     ClearAnswer::Cleared
 }
 
+// How many cells are filled: the entries of a table, of any length.
+pub fn filled(table: &[u16]) -> usize
+    ensures { λ r. ⌜ r ≡ filledCount (now (table .entry)) ⌝ }
+{
+    let mut n = 0;
+    let mut i = 0;
+    while i < table.len() {
+        if table[i] != 0 {
+            n += 1;
+        }
+        i += 1;
+    }
+    n
+}
+
 // Whether a candidate bucket of the tag holds its fingerprint.
 pub fn lookup(s: Settings, table: &[u16], tag: &[u8]) -> LookupAnswer
-    ensures { λ r. ⌜ result (lookupIs r) (now (table .entry)) ≡ lookupOf s (now (table .entry)) (now (tag .entry)) ⌝ }
+    ensures { λ r. ⌜ outcome (lookupIs r) (now (table .entry)) ≡ lookupOf s (now (table .entry)) (now (tag .entry)) ⌝ }
 {
     let n = table_refusal(s, table);
     if n != 0 {
@@ -169,7 +187,7 @@ pub fn lookup(s: Settings, table: &[u16], tag: &[u8]) -> LookupAnswer
 
 // One copy of the tag's fingerprint is taken out: the lowest in the first candidate that has one.
 pub fn release(s: Settings, table: &mut [u16], tag: &[u8]) -> ReleaseAnswer
-    ensures { λ r. ⌜ result (releaseIs r) (now (table .exit)) ≡ releaseOf s (now (table .entry)) (now (tag .entry)) ⌝ }
+    ensures { λ r. ⌜ outcome (releaseIs r) (now (table .exit)) ≡ releaseOf s (now (table .entry)) (now (tag .entry)) ⌝ }
 {
     let n = table_refusal(s, table);
     if n != 0 {
@@ -207,7 +225,7 @@ pub fn view_check(s: Settings, table: &[u16], bucket: u32) -> u32
 
 // The four cells of a bucket, none where view_check refuses.
 pub fn view(s: Settings, table: &[u16], bucket: u32) -> &[u16]
-    ensures { λ r. ⌜ now r ≡ viewed s (now (table .entry)) bucket ⌝ }
+    ensures { λ r. ⌜ Views s (now (table .entry)) bucket (ptr (table .entry)) (ptr r) (now r) ⌝ }
 {
     let n = view_check(s, table, bucket);
     if n != 0 {

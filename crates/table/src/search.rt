@@ -1,17 +1,17 @@
 // The search for an empty cell, breadth first, and the moves along the path that it finds. The queue and
-// the marks stand in scratch as a sparse set, which is never cleared (specs/Scratch.antt).
+// the marks stand in scratch as a sparse set, which is never cleared (specs/Internal.antt).
 ghost use mathlib.Core.Path.{_≡_};
 ghost use mathlib.Core.Bool.{false};
-ghost use mathlib.Core.Option.{none};
 ghost use mathlib.Core.List.{[]};
 ghost use Prim.Native.Nat.{ℕ, _+_, _*_, _-_, _<_, _≤_};
 ghost use lib.ListN.{length, take};
 ghost use Rattle.lemmas.specs.Count.{_among_};
-ghost use Rattle.table.specs.Cells.{lowestEmpty, inFirst};
-ghost use Rattle.table.specs.Search.{marked as markedIn, searchFrom, rootsFrom, relocate as relocated};
-ghost use Rattle.table.specs.Calls.{result, clearRefusal, holdIn};
-ghost use Rattle.table.specs.Answers.{placeIs, holdIs, Holds};
-ghost use Rattle.table.specs.Scratch.{bucketIn, originIn, queueIn, pathIn, Sparse, Queues, Visits, Searches};
+ghost use Rattle.refusals.specs.Outcomes.{outcome, keeping};
+ghost use Rattle.calls.specs.Cells.{lowestEmpty, inFirst};
+ghost use Rattle.calls.specs.Search.{marked as markedIn, searchFrom, rootsFrom, relocate as relocated};
+ghost use Rattle.calls.specs.Calls.{Sound, holdIn};
+ghost use Rattle.table.specs.Answers.{holdIs, Holds};
+ghost use Rattle.table.specs.Internal.{placeIs, bucketIn, originIn, queueIn, pathIn, Sparse, Queues, Visits, Searches};
 use super::HoldAnswer;
 use super::Place;
 use super::SearchAnswer;
@@ -142,7 +142,7 @@ fn seed(scratch: &mut [u32], m: usize, list: CandidateList) -> usize
 
 // The search from the roots. It ends as soon as a bucket is marked that has an empty cell.
 fn find_path(s: Settings, table: &[u16], scratch: &mut [u32], roots: usize) -> SearchAnswer
-    requires { ⌜ clearRefusal s (now table) ≡ none ⌝ }
+    requires { ⌜ Sound s (now table) ⌝ }
     requires { ⌜ Sparse (s .buckets) (now scratch) roots ⌝ }
     requires { ⌜ 1 ≤ roots ⌝ }
     ensures { λ r. ⌜ Searches r (s .buckets) (now (scratch .exit)) roots (searchFrom s (now (table .entry)) (s .buckets) 0 (queueIn (s .buckets) (now (scratch .entry)) roots roots)) ⌝ }
@@ -228,9 +228,9 @@ pub(super) fn insert(
     p: u16,
     home: u32,
 ) -> HoldAnswer
-    requires { ⌜ clearRefusal s (now table) ≡ none ⌝ }
+    requires { ⌜ Sound s (now table) ⌝ }
     requires { ⌜ (2 * s .buckets ≤ length (now scratch)) × (home < s .buckets) ⌝ }
-    ensures { λ r. ⌜ result (holdIs r) (now (table .exit)) ≡ holdIn s (now (table .entry)) p home ⌝ }
+    ensures { λ r. ⌜ outcome (holdIs r) (now (table .exit)) ≡ keeping (now (table .entry)) (holdIn s (now (table .entry)) p home) ⌝ }
 {
     let m = s.buckets as usize;
     let list = index::candidates(s, p, home);

@@ -3,12 +3,6 @@ use Rattle.io.proofs.Counting.{counts}
 use Rattle.gedrunelj.proofs.lent.Statement.{statement}
 use Rattle.gedrunelj.proofs.lent.Tie as tie
 
-cast-n : tie.Need-cast-n
-cast-n c = search needs
-
-mul-n : tie.Need-mul-n
-mul-n c = search needs
-
 returns : tie.Need-returns
 returns c = counts _ _ (search needs)
 
@@ -16,4 +10,4 @@ returns-2 : tie.Need-returns-2
 returns-2 c = counts _ _ (search needs)
 
 pub lent-spec : {M : Type 1} → statement M
-lent-spec = tie.close (tie.spec cast-n mul-n returns returns-2)
+lent-spec = tie.close (tie.spec (λ c. search needs) (λ c. search needs) returns returns-2)

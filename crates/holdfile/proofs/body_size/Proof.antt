@@ -3,18 +3,19 @@ use lib.ListN.{length, drop}
 use mathlib.Core.Path.{_≡_, refl, sym, ap, _∙_}
 use native.Mathlib.Omega.{arith}
 use Rattle.holdfile.proofs.Reading.{shifted}
-use Rattle.holdfile.proofs.Writing.{sizes, sizes-step, sizes-end, any-turn, any-end, size-wide, size-given, body-length}
+use Rattle.holdfile.proofs.Writing.{printSizes, sizes-step, sizes-end, any-turn, any-end, body-length}
 use mathlib.Core.Bool.{Bool, _||_}
 use borrow.Author.Tests.{le-leb, lt-leb}
 use lib.Dec.{leb}
 use lib.Pow.{pow-pos}
-use Rattle.table.specs.Writing.{anyFrom}
+use Rattle.calls.specs.WrittenForms.{anyFrom}
 use Rattle.holdfile.proofs.body_size.Statement.{statement}
 use Rattle.holdfile.proofs.body_size.Tie as tie
 
 abbrev Inv-loop : tie.InvT-loop
 Inv-loop table width buckets top₀ n₀ i₀ top n i =
-    (i ≤ length table) × (n + sizes (drop i table) ≡ buckets + sizes table) × ((leb (2 ^ width) top || anyFrom (2 ^ width) (drop i table)) ≡ anyFrom (2 ^ width) table) × (n ≤ buckets + 2 * i)
+    (i ≤ length table) × (n + printSizes (drop i table) ≡ buckets + printSizes table)
+    × ((leb (2 ^ width) top || anyFrom (2 ^ width) (drop i table)) ≡ anyFrom (2 ^ width) table) × (n ≤ buckets + 2 * i)
 
 abbrev μ-loop : tie.MeasureT-loop
 μ-loop table width buckets top₀ n₀ i₀ top n i = length table - i
@@ -50,8 +51,12 @@ loop-again c =
     let t = c .before .before .before .before .before .before .args .table .now in
     let w = c .before .before .before .before .before .before .args .width in
     let l = c .before .before .before .before .loop in
-    let g : l .i < length t = c .before .before .before .loop-test .taken in
-    (omega arith, omega (arith, sizes-step t (l .i) g, c .part-size .ensures .0, l .inv .1), any-turn t (l .i) (2 ^ w) (l .top) (c .before .larger .result) g (c .before .larger .ensures) ∙ l .inv .2, omega (arith, c .part-size .ensures .1, l .inv .3))
+    let g : l .i < length t = c .before .before .before .loop-test .taken in (
+      omega arith,
+      omega (arith, sizes-step t (l .i) g, c .part-size .ensures .0, l .inv .1),
+      any-turn t (l .i) (2 ^ w) (l .top) (c .before .larger .result) g (c .before .larger .ensures) ∙ l .inv .2,
+      omega (arith, c .part-size .ensures .1, l .inv .3),
+    )
 
 shl-limit : tie.Need-shl-limit Inv-loop μ-loop
 shl-limit c = omega (arith, c .before .before .before .pre .0)
@@ -66,7 +71,7 @@ returns c =
     let w = s .args .width in
     let l = c .before .before .before .loop in
     let h : 2 ^ w ≤ l .top = rw (sym (shifted w (s .pre .0)), sym (c .before .wide .ensures)) (c .if1 .taken) in
-    size-wide w t (sym (l .inv .2) ∙ ap (λ (b : Bool). b || anyFrom (2 ^ w) (drop (l .i) t)) (le-leb (2 ^ w) (l .top) h))
+    sym (l .inv .2) ∙ ap (λ (b : Bool). b || anyFrom (2 ^ w) (drop (l .i) t)) (le-leb (2 ^ w) (l .top) h)
 
 returns-2 : tie.Need-returns-2 Inv-loop μ-loop
 returns-2 c =
@@ -75,9 +80,10 @@ returns-2 c =
     let w = s .args .width in
     let l = c .before .before .before .loop in
     let h : l .top < 2 ^ w = rw (sym (shifted w (s .pre .0)), sym (c .before .wide .ensures)) (c .if1 .left) in
-    let done = c .before .before .loop-test .left in
-    size-given w t (l .n) (sym (l .inv .2) ∙ ap (λ (b : Bool). b || anyFrom (2 ^ w) (drop (l .i) t)) (lt-leb (2 ^ w) (l .top) h) ∙ any-end t (l .i) (2 ^ w) done)
-    (omega (arith, sizes-end t (l .i) done, body-length (s .args .buckets) t (s .pre .1), l .inv .1))
+    let done = c .before .before .loop-test .left in (
+      sym (l .inv .2) ∙ ap (λ (b : Bool). b || anyFrom (2 ^ w) (drop (l .i) t)) (lt-leb (2 ^ w) (l .top) h) ∙ any-end t (l .i) (2 ^ w) done,
+      omega (arith, sizes-end t (l .i) done, body-length (s .args .buckets) t (s .pre .1), l .inv .1),
+    )
 
 pub body-size-spec : {M : Type 1} → statement M
 body-size-spec =

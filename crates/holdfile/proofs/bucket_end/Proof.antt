@@ -1,7 +1,7 @@
 use mathlib.Core.Bool.{true}
 use mathlib.Core.Path.{sym, subst}
 use native.Mathlib.Omega.{arith}
-use Rattle.holdfile.specs.Parts.{FullAt}
+use Rattle.holdfile.specs.Internal.{FullAt}
 use borrow.Author.Needs.{needs}
 use Rattle.holdfile.proofs.bucket_end.Statement.{statement}
 use Rattle.holdfile.proofs.bucket_end.Tie as tie
@@ -10,27 +10,18 @@ use Rattle.holdfile.proofs.bucket_end.Tie as tie
 full : (c : tie.Then1) → FullAt (c .before .before .before .args .width) (c .before .before .before .args .bytes .now) (c .before .before .before .args .at) true
 full c = let a = c .before .before .before .args in subst (FullAt (a .width) (a .bytes .now) (a .at)) (c .if1 .taken) (c .before .full-at .ensures)
 
-full-at-requires : tie.Need-full-at-requires
-full-at-requires c κs = search needs
-
 add-end : tie.Need-add-end
 add-end c = omega (arith, full c .0)
 
 returns : tie.Need-returns
 returns c = sym (full c .1)
 
-bucket-by-cells-requires : tie.Need-bucket-by-cells-requires
-bucket-by-cells-requires c κs = search needs
-
-returns-2 : tie.Need-returns-2
-returns-2 c = search needs
-
 pub bucket-end-spec : {M : Type 1} → statement M
 bucket-end-spec =
     tie.close
     (tie.spec
-    full-at-requires
+    (λ c κs. search needs)
     add-end
     returns
-    bucket-by-cells-requires
-    returns-2)
+    (λ c κs. search needs)
+    (λ c. search needs))

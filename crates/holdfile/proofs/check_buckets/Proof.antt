@@ -6,8 +6,8 @@ use native.Mathlib.Omega.{arith}
 use Rattle.holdfile.proofs.Reading.{check-stops, check-turn, none-more}
 use Rattle.holdfile.proofs.check_buckets.Statement.{statement}
 use Rattle.holdfile.proofs.check_buckets.Tie as tie
-use Rattle.holdfile.specs.Parts.{passIs, endOf}
-use Rattle.holdfile.specs.Reader.{readBuckets}
+use Rattle.holdfile.specs.Internal.{passIs, endOf}
+use Rattle.file_form.specs.Reader.{readBuckets}
 
 abbrev Inv-loop : tie.InvT-loop
 Inv-loop bytes from width count at₀ left₀ at left = endOf (readBuckets width left (drop at bytes)) ≡ endOf (readBuckets width count (drop from bytes))
@@ -21,24 +21,14 @@ loop-holds c = refl
 bucket-end-requires : tie.Need-bucket-end-requires Inv-loop μ-loop
 bucket-end-requires c κs = c .before .before .before .pre
 
-enum-known-n : tie.Need-enum-known-n Inv-loop μ-loop
-enum-known-n c = search needs
-
 returns : tie.Need-returns Inv-loop μ-loop
 returns c =
-    let a = c .before .before .before .before .before .before .before .args in
-    let l = c .before .before .before .before .before .loop in
-    let b = c .before .before .before .bucket-end in
-    sym (ap endOf (check-stops (a .width) (l .left) (drop (l .at) (a .bytes .now)) (c .before .before .before .before .loop-test .taken) (c .before .n .given .0 .0) (ap (passIs (a .bytes .now)) (sym (c .before .n .given .1)) ∙ b .ensures))) ∙ l .inv
-
-enum-known-next : tie.Need-enum-known-next Inv-loop μ-loop
-enum-known-next c = search needs
-
-sub-left : tie.Need-sub-left Inv-loop μ-loop
-sub-left c = search needs
-
-loop-less : tie.Need-loop-less Inv-loop μ-loop
-loop-less c = search needs
+    let b = c .before .before .before in
+    let t = b .before in
+    let l = t .before .loop in
+    let a = t .before .before .before .args in
+    let n = c .before .n .given in
+    sym (ap endOf (check-stops (a .width) (l .left) (drop (l .at) (a .bytes .now)) (t .loop-test .taken) (n .0 .0) (ap (passIs (a .bytes .now)) (sym (n .1)) ∙ b .bucket-end .ensures))) ∙ l .inv
 
 loop-again : tie.Need-loop-again Inv-loop μ-loop
 loop-again c =
@@ -63,10 +53,10 @@ check-buckets-spec =
     μ-loop
     loop-holds
     bucket-end-requires
-    enum-known-n
+    (λ c. search needs)
     returns
-    enum-known-next
-    sub-left
-    loop-less
+    (λ c. search needs)
+    (λ c. search needs)
+    (λ c. search needs)
     loop-again
     returns-2)

@@ -6,25 +6,13 @@ use native.Mathlib.Omega.{arith}
 use Rattle.holdfile.proofs.Reading.{take-two, no-two}
 use Rattle.holdfile.proofs.pair_at.Statement.{statement}
 use Rattle.holdfile.proofs.pair_at.Tie as tie
-use Rattle.holdfile.specs.Reader.{next}
-
-add-high : tie.Need-add-high
-add-high c = search needs
-
-shared-slice-read-pair-of : tie.Need-shared-slice-read-pair-of
-shared-slice-read-pair-of c = search needs
-
-shared-slice-read-pair-of-2 : tie.Need-shared-slice-read-pair-of-2
-shared-slice-read-pair-of-2 c = search needs
-
-pair-of-requires : tie.Need-pair-of-requires
-pair-of-requires c κs = search needs
-
-add-t13 : tie.Need-add-t13
-add-t13 c = search needs
+use Rattle.file_form.specs.Parsed.{next}
 
 returns : tie.Need-returns
-returns c = let a = c .before .before .before .before .before .before .args in ap (λ (v : ℕ). next v (drop (a .at + 1 + 1) (a .bytes .now))) (c .pair-of .ensures) ∙ sym (take-two (a .bytes .now) (a .at) (c .before .before .before .if2 .taken))
+returns c =
+    let t = c .before .before .before in
+    let a = t .before .before .before .args in
+    ap (λ (v : ℕ). next v (drop (a .at + 1 + 1) (a .bytes .now))) (c .pair-of .ensures) ∙ sym (take-two (a .bytes .now) (a .at) (t .if2 .taken))
 
 returns-2 : tie.Need-returns-2
 returns-2 c = sym (no-two (c .before .before .before .args .bytes .now) (c .before .before .before .args .at) (c .if2 .left))
@@ -36,11 +24,11 @@ pub pair-at-spec : {M : Type 1} → statement M
 pair-at-spec =
     tie.close
     (tie.spec
-    add-high
-    shared-slice-read-pair-of
-    shared-slice-read-pair-of-2
-    pair-of-requires
-    add-t13
+    (λ c. search needs)
+    (λ c. search needs)
+    (λ c. search needs)
+    (λ c κs. search needs)
+    (λ c. search needs)
     returns
     returns-2
     returns-3)

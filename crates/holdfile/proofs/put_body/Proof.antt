@@ -1,34 +1,35 @@
 use Prim.Native.Nat.{_+_, _-_, _%_, _≤_}
-use lib.ListN.{length, drop, length-append}
-use lib.Seq.{sets}
-use mathlib.Core.Path.{_≡_, refl, sym, ap, _∙_}
+use lib.ListN.{length, drop}
+use mathlib.Core.Path.{_≡_, refl}
 use native.Mathlib.Omega.{arith}
-use Rattle.holdfile.proofs.Writing.{body-step, body-end, put-turn, put-length}
+use Rattle.holdfile.proofs.Writing.{Left, left-all, left-room, left-turn, left-none, body-step, body-end}
 use Rattle.holdfile.proofs.put_body.Statement.{statement}
 use Rattle.holdfile.proofs.put_body.Tie as tie
-use Rattle.holdfile.specs.Parts.{bucketFrom}
-use Rattle.holdfile.specs.Writer.{body}
+use Rattle.holdfile.specs.Internal.{bucketBytesAt}
+use Rattle.file_form.specs.Writer.{body}
 
 abbrev Inv-loop : tie.InvT-loop
-Inv-loop out₀ from table at₀ i₀ out at i =
-    (i ≤ length table) × (i % 4 ≡ 0) × (sets out at (body (drop i table)) ≡ sets out₀ from (body table))
-    × (at + length (body (drop i table)) ≡ from + length (body table)) × (length out ≡ length out₀)
+Inv-loop out₀ from table at₀ i₀ out at i = (i % 4 ≡ 0) × Left out₀ out from at (body table) (body (drop i table))
 
 abbrev μ-loop : tie.MeasureT-loop
 μ-loop out₀ from table at₀ i₀ out at i = length table - i
 
+-- a whole bucket stands from i on
+four : (c : tie.In-loop Inv-loop μ-loop) → c .before .loop .i + 4 ≤ length (c .before .before .before .before .args .table .now)
+four c = omega (arith, c .before .before .before .before .pre .0, c .before .loop .inv .0, c .loop-test .taken)
+
 loop-holds : tie.Need-loop-holds Inv-loop μ-loop
-loop-holds c = (omega arith, refl, refl, refl, refl)
+loop-holds c = let a = c .before .before .args in (refl, left-all (a .out .now) (a .from) (body (a .table .now)))
 
 put-bucket-requires : tie.Need-put-bucket-requires Inv-loop μ-loop
 put-bucket-requires c κs =
-    let t = c .before .before .before .before .before .args .table .now in
+    let a = c .before .before .before .before .before in
+    let t = a .args .table .now in
     let i = c .before .before .loop .i in
-    let four : i + 4 ≤ length t = omega (arith, c .before .before .before .before .before .pre .0, c .before .before .loop .inv .1, c .before .loop-test .taken) in
-    (four, omega (arith, ap length (body-step t i four), length-append (bucketFrom t i) (body (drop (i + 4) t)), c .before .before .loop .inv .3, c .before .before .loop .inv .4, c .before .before .before .before .before .pre .1))
+    (four (c .before), left-room (c .before .before .loop .inv .1) (bucketBytesAt t i) (body (drop (i + 4) t)) (body-step t i (four (c .before))) (a .pre .1))
 
 add-i : tie.Need-add-i Inv-loop μ-loop
-add-i c = omega (arith, c .before .before .before .before .before .before .before .before .pre .0, c .before .before .before .before .before .loop .inv .1, c .before .before .before .before .loop-test .taken)
+add-i c = omega (arith, four (c .before .before .before .before))
 
 loop-less : tie.Need-loop-less Inv-loop μ-loop
 loop-less c = omega (arith, c .before .before .before .before .loop-test .taken)
@@ -36,18 +37,16 @@ loop-less c = omega (arith, c .before .before .before .before .loop-test .taken)
 loop-again : tie.Need-loop-again Inv-loop μ-loop
 loop-again c =
     let t = c .before .before .before .before .before .before .before .before .args .table .now in
-    let i = c .before .before .before .before .before .loop .i in
-    let four : i + 4 ≤ length t = omega (arith, c .before .before .before .before .before .before .before .before .pre .0, c .before .before .before .before .before .loop .inv .1, c .before .before .before .before .loop-test .taken) in
-    let k = put-turn (c .before .before .put-bucket .ensures) (body (drop (i + 4) t)) (body (drop i t)) (body-step t i four) in
-    (four, omega (arith, c .before .before .before .before .before .loop .inv .1), k .0 ∙ c .before .before .before .before .before .loop .inv .2, k .1 ∙ c .before .before .before .before .before .loop .inv .3, put-length (c .before .before .put-bucket .ensures) ∙ c .before .before .before .before .before .loop .inv .4)
+    let l = c .before .before .before .before .before .loop in
+    (omega (arith, l .inv .0), left-turn (l .inv .1) (body (drop (l .i + 4) t)) (c .before .before .put-bucket .ensures) (body-step t (l .i) (four (c .before .before .before .before))))
 
 same-length : tie.Need-same-length Inv-loop μ-loop
-same-length c = c .before .loop .inv .4
+same-length c = c .before .loop .inv .1 .long
 
 returns : tie.Need-returns Inv-loop μ-loop
 returns c =
-    let t = c .before .before .before .before .args .table .now in
-    ap (sets (c .before .loop .out) (c .before .loop .at)) (sym (body-end t (c .before .loop .i) (c .loop-test .left))) ∙ c .before .loop .inv .2
+    let l = c .before .loop in
+    left-none (l .inv .1) (body-end (c .before .before .before .before .args .table .now) (l .i) (c .loop-test .left)) .output
 
 pub put-body-spec : {M : Type 1} → statement M
 put-body-spec =

@@ -1,4 +1,6 @@
-use Prim.Native.Nat.{_+_, _*_}
+use Prim.Native.Nat.{ℕ, _+_, _*_, _-_, _≤_}
+use mathlib.Core.List.{List}
+use borrow.Rule.Slice.PartMut.{midOf, mid-len, same-len-mid}
 use borrow.Author.Needs.{needs}
 use lib.ListN.{length, take, drop}
 use mathlib.Core.Path.{_≡_, refl, sym, _∙_, subst}
@@ -6,8 +8,8 @@ use native.Mathlib.Omega.{arith}
 use Rattle.holdfile.proofs.Reading.{joined, joined-nil, passes-first, store-turn, store-end}
 use Rattle.holdfile.proofs.store_buckets.Statement.{statement}
 use Rattle.holdfile.proofs.store_buckets.Tie as tie
-use Rattle.holdfile.specs.Parts.{Passed}
-use Rattle.holdfile.specs.Reader.{readBuckets}
+use Rattle.holdfile.specs.Internal.{GivesCells}
+use Rattle.file_form.specs.Reader.{readBuckets}
 
 abbrev Inv-loop : tie.InvT-loop
 Inv-loop bytes from width count table₀ at₀ i₀ left₀ table at i left =
@@ -16,33 +18,60 @@ Inv-loop bytes from width count table₀ at₀ i₀ left₀ table at i left =
 abbrev μ-loop : tie.MeasureT-loop
 μ-loop bytes from width count table₀ at₀ i₀ left₀ table at i left = left
 
+-- the part that is lent has four cells
+four : (i : ℕ) (t : List ℕ) → i + 4 ≤ length t → length (midOf i (i + 4 - i) t) ≡ 4
+four i t h = mid-len i (i + 4) t h ∙ omega arith
+
 loop-holds : tie.Need-loop-holds Inv-loop μ-loop
-loop-holds c = (joined-nil (readBuckets (c .before .before .args .width) (c .before .before .args .count) (drop (c .before .before .args .from) (c .before .before .args .bytes .now))), omega (arith, c .before .before .pre .1), refl)
+loop-holds c =
+    let s = c .before .before in
+    (joined-nil (readBuckets (s .args .width) (s .args .count) (drop (s .args .from) (s .args .bytes .now))), omega (arith, s .pre .1), refl)
+
+add-e : tie.Need-add-e Inv-loop μ-loop
+add-e c = let l = c .before .loop in omega (arith, l .inv .1, c .loop-test .taken, l .inv .2, c .before .before .before .before .good)
+
+mul-store-bucket : tie.Need-mul-store-bucket Inv-loop μ-loop
+mul-store-bucket c = omega arith
+
+sub-store-bucket : tie.Need-sub-store-bucket Inv-loop μ-loop
+sub-store-bucket c = omega arith
+
+part-store-bucket-start : tie.Need-part-store-bucket-start Inv-loop μ-loop
+part-store-bucket-start c = omega arith
+
+part-store-bucket-end : tie.Need-part-store-bucket-end Inv-loop μ-loop
+part-store-bucket-end c = let l = c .before .loop in omega (arith, l .inv .1, c .loop-test .taken)
 
 store-bucket-requires : tie.Need-store-bucket-requires Inv-loop μ-loop
 store-bucket-requires c κs =
-    let a = c .before .before .before .before .before .args in
-    let l = c .before .before .loop in
-    let p = subst Passed (sym (l .inv .0)) (c .before .before .before .before .before .pre .2) in
-    (c .before .before .before .before .before .pre .0, omega (arith, l .inv .1, c .before .loop-test .taken), passes-first (a .width) (l .left) (drop (l .at) (a .bytes .now)) (c .before .loop-test .taken) (take (l .i) (l .table)) p)
-
-add-i : tie.Need-add-i Inv-loop μ-loop
-add-i c = omega (arith, c .before .before .before .before .before .loop .inv .1, c .before .before .before .before .loop-test .taken, c .before .before .before .before .before .loop .inv .2, c .before .before .before .before .before .before .before .before .good)
+    let t = c .before in
+    let s = t .before .before .before .before in
+    let a = s .args in
+    let l = t .before .loop in
+    let more = t .loop-test .taken in
+    let p = subst GivesCells (sym (l .inv .0)) (s .pre .2) in
+    (s .pre .0, four (l .i) (l .table) (omega (arith, l .inv .1, more)), passes-first (a .width) (l .left) (drop (l .at) (a .bytes .now)) more (take (l .i) (l .table)) p)
 
 sub-left : tie.Need-sub-left Inv-loop μ-loop
-sub-left c = search needs
+sub-left c = omega arith
 
 loop-less : tie.Need-loop-less Inv-loop μ-loop
-loop-less c = search needs
+loop-less c = omega arith
 
 loop-again : tie.Need-loop-again Inv-loop μ-loop
 loop-again c =
-    let a = c .before .before .before .before .before .before .before .before .args in
-    let l = c .before .before .before .before .before .loop in
-    let k = c .before .before .store-bucket in (
-      store-turn (a .width) (l .left) (drop (l .at) (a .bytes .now)) (c .before .before .before .before .loop-test .taken) (l .at) (l .i) (k .result) (a .bytes .now) (l .table) (c .before .before .store-bucket .last .1 .1 .1 .0) refl (k .ensures) ∙ l .inv .0,
-      omega (arith, l .inv .1, c .before .before .before .before .loop-test .taken, k .kept .1 .1 .1 .0),
-      k .kept .1 .1 .1 .0 ∙ l .inv .2,
+    let b = c .before .before in
+    let t = b .before .before in
+    let a = t .before .before .before .before .args in
+    let l = t .before .loop in
+    let more = t .loop-test .taken in
+    let k = b .store-bucket in
+    let room : l .i + 4 ≤ length (l .table) = omega (arith, l .inv .1, more) in
+    let kept = same-len-mid (l .i) (l .i + 4 - l .i) (l .table) (k .last .1 .1 .1 .0) (k .kept .1 .1 .1 .0) in (
+      store-turn (a .width) (l .left) (drop (l .at) (a .bytes .now)) more (l .at) (l .i) (k .result) (a .bytes .now) (l .table) (k .last .1 .1 .1 .0) refl room
+          (k .kept .1 .1 .1 .0 ∙ four (l .i) (l .table) room) (k .ensures) ∙ l .inv .0,
+      omega (arith, l .inv .1, more, kept),
+      kept ∙ l .inv .2,
     )
 
 same-length : tie.Need-same-length Inv-loop μ-loop
@@ -61,8 +90,12 @@ store-buckets-spec =
     Inv-loop
     μ-loop
     loop-holds
+    add-e
+    mul-store-bucket
+    sub-store-bucket
+    part-store-bucket-start
+    part-store-bucket-end
     store-bucket-requires
-    add-i
     sub-left
     loop-less
     loop-again

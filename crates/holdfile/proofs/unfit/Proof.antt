@@ -12,14 +12,11 @@ returns c = fit-unmarked (c .before .args .marked) (c .before .args .v) (c .befo
 returns-2 : tie.Need-returns-2
 returns-2 c = let a = c .before .before .args in unfit-zero (a .marked) (a .v) (a .width) (not-false (a .marked) (c .before .if1 .left)) (c .if2 .taken)
 
-wide-requires : tie.Need-wide-requires
-wide-requires c κs = search needs
-
-shl-result : tie.Need-shl-result
-shl-result c = search needs
-
 returns-3 : tie.Need-returns-3
-returns-3 c = let a = c .before .before .before .args in ap₂ leb (shifted (a .width) (c .before .before .before .pre)) (c .wide .ensures) ∙ unfit-wide (a .marked) (a .v) (a .width) (not-false (a .marked) (c .before .before .if1 .left)) (c .before .if2 .left)
+returns-3 c =
+    let s = c .before .before .before in
+    let a = s .args in
+    ap₂ leb (shifted (a .width) (s .pre)) (c .wide .ensures) ∙ unfit-wide (a .marked) (a .v) (a .width) (not-false (a .marked) (c .before .before .if1 .left)) (c .before .if2 .left)
 
 pub unfit-spec : {M : Type 1} → statement M
-unfit-spec = tie.close (tie.spec returns returns-2 wide-requires shl-result returns-3)
+unfit-spec = tie.close (tie.spec returns returns-2 (λ c κs. search needs) (λ c. search needs) returns-3)

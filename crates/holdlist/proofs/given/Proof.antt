@@ -5,11 +5,8 @@ use native.Mathlib.Omega.{arith}
 use Rattle.holdlist.proofs.given.Statement.{statement}
 use Rattle.holdlist.proofs.given.Tie as tie
 
-cast-result : tie.Need-cast-result
-cast-result c = search needs
-
 returns : tie.Need-returns
 returns c = toZ-pos w64 (omega arith)
 
 pub given-spec : {M : Type 1} → statement M
-given-spec = tie.close (tie.spec cast-result returns)
+given-spec = tie.close (tie.spec (λ c. search needs) returns)

@@ -1,35 +1,44 @@
-use Prim.Native.Nat.{ℕ}
 use borrow.Author.Needs.{needs}
+use mathlib.Core.Path.{_∙_, ap}
+use Rattle.index.specs.declared.Settings.{Settings}
+use Prim.Native.Nat.{ℕ}
 use mathlib.Core.List.{List}
-use mathlib.Core.Path.{sym, ap, _∙_}
+use lib.ListN.{length}
+use mathlib.Core.Path.{subst, sym}
+use Rattle.refusals.specs.Outcomes.{Answer}
+use Rattle.index.specs.Answers.{candidatesAnswer, Lists}
 use Rattle.holdlist.proofs.Crossing.{crosses, list-refused, list-given}
+use Rattle.holdlist.specs.Numbers.{signed}
+use Rattle.holdlist.specs.Calls.{candidatesOut}
+use Rattle.holdlist.specs.Numbers.{settingsOf}
 use Rattle.holdlist.proofs.holdlist_candidates.Statement.{statement}
 use Rattle.holdlist.proofs.holdlist_candidates.Tie as tie
-use Rattle.holdlist.specs.Calls.{counted, candidatesOut}
-use Rattle.holdlist.specs.Numbers.{signed}
-use Rattle.index.specs.Checks.{Answer}
 
-candidates-requires : tie.Need-candidates-requires
-candidates-requires c κs = search needs
-
-refused-requires : tie.Need-refused-requires
-refused-requires c κs = search needs
+lists : (c : tie.After-candidates) → let a = c .before .before .args in
+    Lists (c .candidates .result) (candidatesAnswer (settingsOf (a .rule) (a .width) (a .buckets) (a .mask)) (a .fingerprint) (a .bucket))
+lists c =
+    let a = c .before .before .args in
+    subst (λ (x : Settings). Lists (c .candidates .result) (candidatesAnswer x (a .fingerprint) (a .bucket))) (c .before .settings .ensures) (c .candidates .ensures)
 
 returns : tie.Need-returns
 returns c =
     let d = c .before .before in
-    let q = sym (list-refused (d .candidates .result) (d .candidates .ensures) (c .before .if1 .taken)) in
-    (crosses (c .refused .ok) (c .refused .ensures ∙ ap (λ (a : Answer (List ℕ)). signed (counted a)) q), ap (λ (a : Answer (List ℕ)). candidatesOut a (d .before .args .out .now)) q)
-
-given-requires : tie.Need-given-requires
-given-requires c κs = search needs
+    let q = sym (list-refused (d .candidates .result) (lists d) (c .before .if1 .taken)) in
+    (crosses (c .refused .ok) (c .refused .ensures ∙ ap (signed length) q), ap (λ (a : Answer (List ℕ)). candidatesOut a (d .before .before .args .out .now)) q)
 
 returns-2 : tie.Need-returns-2
 returns-2 c =
     let d = c .before .before .before in
-    let l = list-given (d .candidates .result) _ (d .candidates .ensures) (c .before .before .if1 .left) in
+    let l = list-given (d .candidates .result) _ (lists d) (c .before .before .if1 .left) in
     (crosses (c .given .ok) (c .given .ensures ∙ l .number), l .places _)
 
 pub holdlist-candidates-spec : {M : Type 1} → statement M
 holdlist-candidates-spec =
-    tie.close (tie.spec candidates-requires refused-requires returns given-requires returns-2)
+    tie.close
+    (tie.spec
+    (λ c κs. search needs)
+    (λ c κs. search needs)
+    (λ c κs. search needs)
+    returns
+    (λ c κs. search needs)
+    returns-2)

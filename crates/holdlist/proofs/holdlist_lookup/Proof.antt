@@ -1,52 +1,42 @@
 use borrow.Author.Needs.{needs}
-use mathlib.Core.Path.{_∙_}
-use Rattle.holdlist.proofs.Crossing.{crosses, told}
+use mathlib.Core.Path.{_≡_, _∙_, ap}
+use Rattle.index.specs.declared.Settings.{Settings}
+use Rattle.table.specs.Answers.{lookupIs}
+use Rattle.table.specs.declared.LookupAnswer.{LookupAnswer}
+use Rattle.calls.specs.Calls.{lookup}
+use Rattle.holdlist.proofs.Crossing.{crosses, Told, told}
+use Rattle.holdlist.specs.Numbers.{settingsOf, saidNumber}
 use Rattle.holdlist.proofs.holdlist_lookup.Statement.{statement}
 use Rattle.holdlist.proofs.holdlist_lookup.Tie as tie
-use Rattle.table.specs.Answers.{lookupIs}
 
-lookup-requires : tie.Need-lookup-requires
-lookup-requires c κs = search needs
-
-enum-told : tie.Need-enum-told
-enum-told c = search needs
-
-enum-told-2 : tie.Need-enum-told-2
-enum-told-2 c = search needs
-
-enum-known-n : tie.Need-enum-known-n
-enum-known-n c = search needs
-
-refused-requires : tie.Need-refused-requires
-refused-requires c κs = search needs
+-- what the call does, under the settings that were lent
+does : (c : tie.After-lookup) {r : LookupAnswer} → c .lookup .result ≡ r → let a = c .before .before .before .before .args in
+    Told saidNumber (lookupIs r) (a .table .now) (lookup (settingsOf (a .rule) (a .width) (a .buckets) (a .mask)) (a .table .now) (a .tag .now))
+does c q =
+    let s = c .before in
+    let a = s .before .before .before .args in
+    told saidNumber lookupIs q (c .lookup .ensures)
+    (ap (λ (x : Settings). lookup x (a .table .now) (a .tag .now)) (s .settings .ensures))
 
 returns : tie.Need-returns
-returns c =
-    let d = c .before .before in
-    let t = told lookupIs (c .enum-told .given .1) (d .lookup .ensures) in
-    t .number
+returns c = does (c .before .before) (c .enum-told .given .1) .number
 
 returns-2 : tie.Need-returns-2
-returns-2 c =
-    let d = c .before .before in
-    let t = told lookupIs (c .enum-told2 .given .1) (d .lookup .ensures) in
-    t .number
+returns-2 c = does (c .before .before) (c .enum-told2 .given .1) .number
 
 returns-3 : tie.Need-returns-3
-returns-3 c =
-    let d = c .before .before .before .before in
-    let t = told lookupIs (c .before .before .n .given .1) (d .lookup .ensures) in
-    crosses (c .refused .ok) (c .refused .ensures ∙ t .number)
+returns-3 c = crosses (c .refused .ok) (c .refused .ensures ∙ does (c .before .before .before .before) (c .before .before .n .given .1) .number)
 
 pub holdlist-lookup-spec : {M : Type 1} → statement M
 holdlist-lookup-spec =
     tie.close
     (tie.spec
-    lookup-requires
-    enum-told
-    enum-told-2
-    enum-known-n
-    refused-requires
+    (λ c κs. search needs)
+    (λ c κs. search needs)
+    (λ c. search needs)
+    (λ c. search needs)
+    (λ c. search needs)
+    (λ c κs. search needs)
     returns
     returns-2
     returns-3)

@@ -1,60 +1,50 @@
 use borrow.Author.Needs.{needs}
-use mathlib.Core.Path.{sym, ap, _∙_}
+use mathlib.Core.Path.{_≡_, _∙_, ap}
+use Rattle.index.specs.declared.Settings.{Settings}
+use Rattle.packed.specs.Answers.{unpackIs}
+use Rattle.packed.specs.declared.UnpackAnswer.{UnpackAnswer}
+use Rattle.packed_form.specs.Reader.{readPacked}
 use native.Mathlib.Omega.{arith}
+use mathlib.Core.Path.{sym}
+use Rattle.refusals.specs.Outcomes.{outcome}
 use Rattle.holdlist.proofs.Counts.{unpacked-below}
-use Rattle.holdlist.proofs.Crossing.{crosses}
+use Rattle.holdlist.proofs.Crossing.{crosses, Told, told}
+use Rattle.holdlist.specs.Numbers.{settingsOf, itself}
 use Rattle.holdlist.proofs.holdlist_packed_read.Statement.{statement}
 use Rattle.holdlist.proofs.holdlist_packed_read.Tie as tie
-use Rattle.holdlist.specs.Numbers.{signed}
-use Rattle.packed.specs.Answers.{unpackIs}
-use Rattle.packed.specs.Reader.{ReadOut}
 
-read-requires : tie.Need-read-requires
-read-requires c κs = search needs
-
-enum-known-n : tie.Need-enum-known-n
-enum-known-n c = search needs
+-- what the call does, under the settings that were lent
+does : (c : tie.After-read) {r : UnpackAnswer} → c .read .result ≡ r → let a = c .before .before .before .before .before .args in
+    Told itself (unpackIs r) (c .read .last .1 .1 .0) (readPacked (settingsOf (a .rule) (a .width) (a .buckets) (a .mask)) (a .bytes .now) (a .table .now))
+does c q =
+    let s = c .before .before in
+    let a = s .before .before .before .args in
+    told itself unpackIs q (c .read .ensures)
+    (ap (λ (x : Settings). readPacked x (a .bytes .now) (a .table .now)) (s .settings .ensures))
 
 given-count-requires : tie.Need-given-count-requires
 given-count-requires c κs =
     let d = c .before .before .before .before .before in
-    let e = sym (ap (λ r. record { answer = unpackIs r; cells = d .read .last .1 .1 .0 }) (c .before .n .given .1)) ∙ d .read .ensures in
-    omega (arith, unpacked-below _ _ _ _ _ e, d .read .kept .1 .1 .0, d .before .before .before .before .good)
-
-enum-known-n-2 : tie.Need-enum-known-n-2
-enum-known-n-2 c = search needs
-
-refused-requires : tie.Need-refused-requires
-refused-requires c κs = search needs
-
-same-length : tie.Need-same-length
-same-length c = search needs
+    let e = sym (ap (λ r. outcome (unpackIs r) (d .read .last .1 .1 .0)) (c .before .n .given .1)) ∙ d .read .ensures in
+    omega (arith, unpacked-below _ _ _ e, d .read .kept .1 .1 .0, d .before .before .before .before .before .good)
 
 returns : tie.Need-returns
-returns c =
-    let d = c .before .before .before .before .before .before in
-    let e = sym (ap (λ r. record { answer = unpackIs r; cells = d .read .last .1 .1 .0 }) (c .before .before .n .given .1)) ∙ d .read .ensures in
-    (crosses (c .given-count .ok) (c .given-count .ensures ∙ ap (λ (w : ReadOut). signed (w .answer)) e), ap (λ (w : ReadOut). w .cells) e)
-
-same-length-2 : tie.Need-same-length-2
-same-length-2 c = search needs
+returns c = let t = does (c .before .before .before .before .before .before) (c .before .before .n .given .1) in (crosses (c .given-count .ok) (c .given-count .ensures ∙ t .number), t .leaves)
 
 returns-2 : tie.Need-returns-2
-returns-2 c =
-    let d = c .before .before .before .before .before .before in
-    let e = sym (ap (λ r. record { answer = unpackIs r; cells = d .read .last .1 .1 .0 }) (c .before .before .n2 .given .1)) ∙ d .read .ensures in
-    (crosses (c .refused .ok) (c .refused .ensures ∙ ap (λ (w : ReadOut). signed (w .answer)) e), ap (λ (w : ReadOut). w .cells) e)
+returns-2 c = let t = does (c .before .before .before .before .before .before) (c .before .before .n2 .given .1) in (crosses (c .refused .ok) (c .refused .ensures ∙ t .number), t .leaves)
 
 pub holdlist-packed-read-spec : {M : Type 1} → statement M
 holdlist-packed-read-spec =
     tie.close
     (tie.spec
-    read-requires
-    enum-known-n
+    (λ c κs. search needs)
+    (λ c κs. search needs)
+    (λ c. search needs)
     given-count-requires
-    enum-known-n-2
-    refused-requires
-    same-length
+    (λ c. search needs)
+    (λ c κs. search needs)
+    (λ c. search needs)
     returns
-    same-length-2
+    (λ c. search needs)
     returns-2)

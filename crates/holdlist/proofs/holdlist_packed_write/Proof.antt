@@ -1,60 +1,50 @@
 use borrow.Author.Needs.{needs}
-use mathlib.Core.Path.{sym, ap, _∙_}
+use mathlib.Core.Path.{_≡_, _∙_, ap}
+use Rattle.index.specs.declared.Settings.{Settings}
+use Rattle.packed.specs.Answers.{packIs}
+use Rattle.packed.specs.declared.PackAnswer.{PackAnswer}
+use Rattle.packed_form.specs.Writer.{writePacked}
 use native.Mathlib.Omega.{arith}
+use mathlib.Core.Path.{sym}
+use Rattle.refusals.specs.Outcomes.{outcome}
 use Rattle.holdlist.proofs.Counts.{packed-below}
-use Rattle.holdlist.proofs.Crossing.{crosses}
+use Rattle.holdlist.proofs.Crossing.{crosses, Told, told}
+use Rattle.holdlist.specs.Numbers.{settingsOf, itself}
 use Rattle.holdlist.proofs.holdlist_packed_write.Statement.{statement}
 use Rattle.holdlist.proofs.holdlist_packed_write.Tie as tie
-use Rattle.holdlist.specs.Numbers.{signed}
-use Rattle.packed.specs.Answers.{packIs}
-use Rattle.table.specs.Writing.{Written}
 
-write-requires : tie.Need-write-requires
-write-requires c κs = search needs
-
-enum-known-n : tie.Need-enum-known-n
-enum-known-n c = search needs
+-- what the call does, under the settings that were lent
+does : (c : tie.After-write) {r : PackAnswer} → c .write .result ≡ r → let a = c .before .before .before .before .before .args in
+    Told itself (packIs r) (c .write .last .1 .1 .0) (writePacked (settingsOf (a .rule) (a .width) (a .buckets) (a .mask)) (a .table .now) (a .out .now))
+does c q =
+    let s = c .before .before in
+    let a = s .before .before .before .args in
+    told itself packIs q (c .write .ensures)
+    (ap (λ (x : Settings). writePacked x (a .table .now) (a .out .now)) (s .settings .ensures))
 
 given-count-requires : tie.Need-given-count-requires
 given-count-requires c κs =
     let d = c .before .before .before .before .before in
-    let e = sym (ap (λ r. record { answer = packIs r; output = d .write .last .1 .1 .0 }) (c .before .n .given .1)) ∙ d .write .ensures in
-    omega (arith, packed-below _ _ _ _ _ e, d .write .kept .1 .1 .0, d .before .before .before .before .good)
-
-enum-known-n-2 : tie.Need-enum-known-n-2
-enum-known-n-2 c = search needs
-
-refused-requires : tie.Need-refused-requires
-refused-requires c κs = search needs
-
-same-length : tie.Need-same-length
-same-length c = search needs
+    let e = sym (ap (λ r. outcome (packIs r) (d .write .last .1 .1 .0)) (c .before .n .given .1)) ∙ d .write .ensures in
+    omega (arith, packed-below _ _ _ e, d .write .kept .1 .1 .0, d .before .before .before .before .before .good)
 
 returns : tie.Need-returns
-returns c =
-    let d = c .before .before .before .before .before .before in
-    let e = sym (ap (λ r. record { answer = packIs r; output = d .write .last .1 .1 .0 }) (c .before .before .n .given .1)) ∙ d .write .ensures in
-    (crosses (c .given-count .ok) (c .given-count .ensures ∙ ap (λ (w : Written). signed (w .answer)) e), ap (λ (w : Written). w .output) e)
-
-same-length-2 : tie.Need-same-length-2
-same-length-2 c = search needs
+returns c = let t = does (c .before .before .before .before .before .before) (c .before .before .n .given .1) in (crosses (c .given-count .ok) (c .given-count .ensures ∙ t .number), t .leaves)
 
 returns-2 : tie.Need-returns-2
-returns-2 c =
-    let d = c .before .before .before .before .before .before in
-    let e = sym (ap (λ r. record { answer = packIs r; output = d .write .last .1 .1 .0 }) (c .before .before .n2 .given .1)) ∙ d .write .ensures in
-    (crosses (c .refused .ok) (c .refused .ensures ∙ ap (λ (w : Written). signed (w .answer)) e), ap (λ (w : Written). w .output) e)
+returns-2 c = let t = does (c .before .before .before .before .before .before) (c .before .before .n2 .given .1) in (crosses (c .refused .ok) (c .refused .ensures ∙ t .number), t .leaves)
 
 pub holdlist-packed-write-spec : {M : Type 1} → statement M
 holdlist-packed-write-spec =
     tie.close
     (tie.spec
-    write-requires
-    enum-known-n
+    (λ c κs. search needs)
+    (λ c κs. search needs)
+    (λ c. search needs)
     given-count-requires
-    enum-known-n-2
-    refused-requires
-    same-length
+    (λ c. search needs)
+    (λ c κs. search needs)
+    (λ c. search needs)
     returns
-    same-length-2
+    (λ c. search needs)
     returns-2)

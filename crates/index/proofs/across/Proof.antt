@@ -3,15 +3,6 @@ use Rattle.index.proofs.Ring.{across-ahead, across-around, across-behin
 use Rattle.index.proofs.across.Statement.{statement}
 use Rattle.index.proofs.across.Tie as tie
 
-add-x : tie.Need-add-x
-add-x c = search needs
-
-add-result : tie.Need-add-result
-add-result c = search needs
-
-sub-x : tie.Need-sub-x
-sub-x c = search needs
-
 returns : tie.Need-returns
 returns c = let a = c .before .before in across-ahead (a .args .l) (a .args .d) (a .args .b) (a .pre .0) (a .pre .2) (c .before .if1 .taken) (c .if2 .taken)
 
@@ -25,4 +16,4 @@ returns-4 : tie.Need-returns-4
 returns-4 c = let a = c .before .before in across-turned (a .args .l) (a .args .d) (a .args .b) (a .pre .0) (a .pre .2) (c .before .if1 .left) (c .if3 .left)
 
 pub across-spec : {M : Type 1} → statement M
-across-spec = tie.close (tie.spec add-x add-result sub-x returns returns-2 returns-3 returns-4)
+across-spec = tie.close (tie.spec (λ c. search needs) (λ c. search needs) (λ c. search needs) returns returns-2 returns-3 returns-4)

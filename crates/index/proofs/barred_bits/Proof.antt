@@ -5,14 +5,8 @@ use Rattle.index.proofs.Good.{by-xor}
 use Rattle.index.proofs.barred_bits.Statement.{statement}
 use Rattle.index.proofs.barred_bits.Tie as tie
 
-sub-result : tie.Need-sub-result
-sub-result c = search needs
-
-returns : tie.Need-returns
-returns c = search needs
-
 returns-2 : tie.Need-returns-2
 returns-2 c = sym (by-xor (c .before .args .rule) (c .before .args .buckets - 1) 1 (c .if1 .left))
 
 pub barred-bits-spec : {M : Type 1} → statement M
-barred-bits-spec = tie.close (tie.spec sub-result returns returns-2)
+barred-bits-spec = tie.close (tie.spec (λ c. search needs) (λ c. search needs) returns-2)

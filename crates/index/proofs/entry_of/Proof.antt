@@ -1,49 +1,46 @@
 use borrow.Author.Needs.{needs}
-use Rattle.index.proofs.Answers.{passed, entry-refused, entry-empty, entry-long, entry-given}
+use mathlib.Core.Logic.{inl, inr}
+use native.Mathlib.Nat.{pos-of-ne-zero}
+use Rattle.index.proofs.Answers.{Checked, passed, entry-refused, entry-bad, entry-given}
 use Rattle.index.proofs.Computes.{print-of, home-of}
 use Rattle.index.proofs.entry_of.Statement.{statement}
 use Rattle.index.proofs.entry_of.Tie as tie
 
-refusal-requires : tie.Need-refusal-requires
-refusal-requires c κs = search needs
+checked : (c : tie.After-refusal) → Checked (c .before .before .args .s) (c .refusal .result)
+checked c = record { is = c .refusal .ensures }
 
 returns : tie.Need-returns
-returns c = let a = c .before .before in entry-refused (a .before .args .s) (c .before .refusal .result) (c .before .refusal .ensures) (a .before .args .tag .now) (c .if1 .taken)
+returns c = entry-refused (checked (c .before)) _ (c .if1 .taken)
 
 returns-2 : tie.Need-returns-2
-returns-2 c = entry-empty (c .before .before .before .before .args .s) (c .before .before .refusal .result) (c .before .before .refusal .ensures) (c .before .before .before .before .args .tag .now) (c .before .if1 .left) (c .if2 .taken)
+returns-2 c = entry-bad (checked (c .before .before)) _ (c .before .if1 .left) (inl (c .if2 .taken))
 
 returns-3 : tie.Need-returns-3
-returns-3 c = entry-long (c .before .before .before .before .before .args .s) (c .before .before .before .refusal .result) (c .before .before .before .refusal .ensures) (c .before .before .before .before .before .args .tag .now) (c .before .before .if1 .left) (c .if3 .taken)
-
-fnv1a-requires : tie.Need-fnv1a-requires
-fnv1a-requires c κs = search needs
+returns-3 c = let e = c .before .before in entry-bad (checked (e .before)) _ (e .if1 .left) (inr (c .if3 .taken))
 
 fingerprint-of-requires : tie.Need-fingerprint-of-requires
-fingerprint-of-requires c κs = passed (c .before .before .before .before .before .before .args .s) (c .before .before .before .before .refusal .result) (c .before .before .before .before .refusal .ensures) (c .before .before .before .if1 .left)
+fingerprint-of-requires c κs = let e = c .before .before .before in passed (checked (e .before)) (e .if1 .left)
 
 reduce-requires : tie.Need-reduce-requires
-reduce-requires c κs = passed (c .before .before .before .before .before .before .before .args .s) (c .before .before .before .before .before .refusal .result) (c .before .before .before .before .before .refusal .ensures) (c .before .before .before .before .if1 .left)
+reduce-requires c κs = let e = c .before .before .before .before in passed (checked (e .before)) (e .if1 .left)
 
 returns-4 : tie.Need-returns-4
 returns-4 c =
-    let h = c .before .before .fnv1a in
-    let s = c .before .before .before .before .before .before .before .before .args .s in
-    let t = c .before .before .before .before .before .before .before .before .args .tag .now in
-    entry-given (c .before .before .before .before .before .before .before .before .args .s) (c .before .before .before .before .before .before .refusal .result) (c .before .before .before .before .before .before .refusal .ensures) t (c .before .before .before .before .before .if1 .left) (c .before .before .before .before .if2 .left) (c .before .before .before .if3 .left)
-    (c .before .fingerprint-of .result) (c .reduce .result)
-    (print-of s t (h .result) (c .before .fingerprint-of .result) (h .ensures) (c .before .fingerprint-of .ensures))
-    (home-of s t (h .result) (c .reduce .result) (h .ensures) (c .reduce .ensures))
+    let h = c .before .before in
+    let l = h .before in
+    let e = l .before .before in
+    entry-given (checked (e .before)) _ (e .if1 .left) (pos-of-ne-zero (l .before .if2 .left)) (l .if3 .left)
+    (print-of _ _ (h .fnv1a .ensures) (c .before .fingerprint-of .ensures)) (home-of _ _ (h .fnv1a .ensures) (c .reduce .ensures))
 
 pub entry-of-spec : {M : Type 1} → statement M
 entry-of-spec =
     tie.close
     (tie.spec
-    refusal-requires
+    (λ c κs. search needs)
     returns
     returns-2
     returns-3
-    fnv1a-requires
+    (λ c κs. search needs)
     fingerprint-of-requires
     reduce-requires
     returns-4)

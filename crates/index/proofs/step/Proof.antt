@@ -4,11 +4,8 @@ use Rattle.index.proofs.Computes.{step-is}
 use Rattle.index.proofs.step.Statement.{statement}
 use Rattle.index.proofs.step.Tie as tie
 
-times-prime-requires : tie.Need-times-prime-requires
-times-prime-requires c κs = search needs
-
 returns : tie.Need-returns
 returns c = c .times-prime .ensures ∙ step-is (c .before .args .h) (c .before .args .b) (c .before .fits .b .fits)
 
 pub step-spec : {M : Type 1} → statement M
-step-spec = tie.close (tie.spec times-prime-requires returns)
+step-spec = tie.close (tie.spec (λ c κs. search needs) returns)

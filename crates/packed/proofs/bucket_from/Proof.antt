@@ -1,65 +1,41 @@
-use Rattle.packed.proofs.Computes.{all-fits, top-fits, cells-are}
+use Prim.Native.Nat.{_+_, _-_, _/_, _^_}
 use borrow.Author.Needs.{needs}
+use Rattle.packed_form.specs.Reader.{bucketFrom}
+use Rattle.packed.proofs.Words.{FourIn, bucket-word}
 use Rattle.packed.proofs.bucket_from.Statement.{statement}
 use Rattle.packed.proofs.bucket_from.Tie as tie
 
-mul-nibbles : tie.Need-mul-nibbles
-mul-nibbles c = search needs
-
-element-copy-out-nibbles : tie.Need-element-copy-out-nibbles
-element-copy-out-nibbles c = search needs
-
-nibbles-requires : tie.Need-nibbles-requires
-nibbles-requires c κs = search needs
-
-sub-fields : tie.Need-sub-fields
-sub-fields c = search needs
-
-fields-requires : tie.Need-fields-requires
-fields-requires c κs = search needs
-
-sub-all : tie.Need-sub-all
-sub-all c = search needs
-
-cast-all : tie.Need-cast-all
-cast-all c = search needs
-
-shr-all : tie.Need-shr-all
-shr-all c = search needs
+word : (c : tie.After-fields) → let n = c .before in let a = n .before .before .args in
+    FourIn (n .nibbles .result / 2 ^ (16 - a .w) + c .fields .result) (bucketFrom (a .w) (a .code))
+word c =
+    let n = c .before in
+    let s = n .before .before in
+    bucket-word (s .args .w) (s .args .code) (s .args .quads .now) (s .pre .0) (s .pre .1) (s .pre .2) (n .nibbles .ensures) (c .fields .ensures)
 
 add-all : tie.Need-add-all
-add-all c = record { fits = all-fits (c .before .before .before .args .w) (c .before .before .before .args .code) (c .before .before .before .args .quads .now) (c .before .before .before .pre .0) (c .before .before .before .pre .1) (c .before .before .before .pre .2) (c .before .before .before .pre .3) (c .before .nibbles .result) (c .fields .result) (c .before .nibbles .ensures) (c .fields .ensures) }
-
-cast-t12 : tie.Need-cast-t12
-cast-t12 c = search needs
-
-cast-t16 : tie.Need-cast-t16
-cast-t16 c = search needs
-
-cast-t19 : tie.Need-cast-t19
-cast-t19 c = search needs
+add-all c = record { fits = word c .fits }
 
 cast-t21 : tie.Need-cast-t21
-cast-t21 c = record { fits = top-fits (c .before .before .before .args .w) (c .before .before .before .args .code) (c .before .before .before .args .quads .now) (c .before .before .before .pre .0) (c .before .before .before .pre .1) (c .before .before .before .pre .2) (c .before .before .before .pre .3) (c .before .nibbles .result) (c .fields .result) (c .before .nibbles .ensures) (c .fields .ensures) }
+cast-t21 c = record { fits = word c .top }
 
 returns : tie.Need-returns
-returns c = cells-are (c .before .before .before .args .w) (c .before .before .before .args .code) (c .before .before .before .args .quads .now) (c .before .before .before .pre .0) (c .before .before .before .pre .1) (c .before .before .before .pre .2) (c .before .before .before .pre .3) (c .before .nibbles .result) (c .fields .result) (c .before .nibbles .ensures) (c .fields .ensures)
+returns c = word c .apart
 
 pub bucket-from-spec : {M : Type 1} → statement M
 bucket-from-spec =
     tie.close
     (tie.spec
-    mul-nibbles
-    element-copy-out-nibbles
-    nibbles-requires
-    sub-fields
-    fields-requires
-    sub-all
-    cast-all
-    shr-all
+    (λ c. search needs)
+    (λ c. search needs)
+    (λ c κs. search needs)
+    (λ c. search needs)
+    (λ c κs. search needs)
+    (λ c. search needs)
+    (λ c. search needs)
+    (λ c. search needs)
     add-all
-    cast-t12
-    cast-t16
-    cast-t19
+    (λ c. search needs)
+    (λ c. search needs)
+    (λ c. search needs)
     cast-t21
     returns)

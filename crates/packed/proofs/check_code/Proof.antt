@@ -1,78 +1,55 @@
-use Prim.Native.Nat.{ℕ}
 use borrow.Author.Needs.{needs}
-use mathlib.Core.Option.{Option}
-use mathlib.Core.Path.{sym, ap, _∙_}
-use Rattle.index.specs.Checks.{given, unless}
-use Rattle.packed.proofs.Codes.{passes}
-use Rattle.packed.proofs.Reading.{row-refused, order-refused, as-four}
+use mathlib.Core.Path.{_≡_, sym, ap, _∙_}
+use Rattle.calls.specs.Cells.{filledCount}
+use Rattle.refusals.specs.Outcomes.{given}
+use Rattle.refusals.proofs.Cursor.{is-refused, goes-on}
+use Rattle.packed_form.proofs.Refusals.{row-refused, order-refused, bucket-passes}
+use Rattle.packed_form.specs.Reader.{bucketFrom, descends}
+use Rattle.packed.proofs.Reading.{as-four}
 use Rattle.packed.proofs.check_code.Statement.{statement}
 use Rattle.packed.proofs.check_code.Tie as tie
-use Rattle.packed.specs.Reader.{bucketFrom, descends, filledCount}
+
+-- the order of the bucket, as it was tested
+order : (c : tie.After-descending) → let a = c .before .before .before .args in descends (bucketFrom (a .w) (a .code)) ≡ c .descending .result
+order c =
+    let b = c .before in
+    let a = b .before .before .args in
+    ap descends (sym (as-four (a .w) (a .code) (b .bucket-from .result) (b .bucket-from .ensures))) ∙ sym (c .descending .ensures)
 
 returns : tie.Need-returns
-returns c = sym (ap (λ (o : Option ℕ). unless o (filledCount (bucketFrom (c .before .args .w) (c .before .args .code)))) (row-refused (c .before .args .w) (c .before .args .code) (c .if1 .taken)))
-
-bucket-from-requires : tie.Need-bucket-from-requires
-bucket-from-requires c κs = search needs
-
-array-read-descending : tie.Need-array-read-descending
-array-read-descending c = search needs
-
-array-read-descending-2 : tie.Need-array-read-descending-2
-array-read-descending-2 c = search needs
-
-array-read-descending-3 : tie.Need-array-read-descending-3
-array-read-descending-3 c = search needs
-
-array-read-descending-4 : tie.Need-array-read-descending-4
-array-read-descending-4 c = search needs
-
-descending-requires : tie.Need-descending-requires
-descending-requires c κs = search needs
+returns c = let a = c .before .args in is-refused (given (filledCount (bucketFrom (a .w) (a .code)))) (row-refused (a .w) (a .code) (c .if1 .taken))
 
 returns-2 : tie.Need-returns-2
 returns-2 c =
-    let a = c .before .before .before .before .args in
-    let f = as-four (a .w) (a .code) (c .before .before .bucket-from .result) (c .before .before .bucket-from .ensures) in
-    sym (ap (λ (o : Option ℕ). unless o (filledCount (bucketFrom (a .w) (a .code)))) (order-refused (a .w) (a .code) (c .before .before .before .if1 .left) (ap descends (sym f) ∙ sym (c .before .descending .ensures) ∙ c .if2 .taken)))
-
-array-read-filled-of : tie.Need-array-read-filled-of
-array-read-filled-of c = search needs
-
-array-read-filled-of-2 : tie.Need-array-read-filled-of-2
-array-read-filled-of-2 c = search needs
-
-array-read-filled-of-3 : tie.Need-array-read-filled-of-3
-array-read-filled-of-3 c = search needs
-
-array-read-filled-of-4 : tie.Need-array-read-filled-of-4
-array-read-filled-of-4 c = search needs
-
-filled-of-requires : tie.Need-filled-of-requires
-filled-of-requires c κs = search needs
+    let d = c .before in
+    let r = d .before .before in
+    let a = r .before .args in
+    is-refused (given (filledCount (bucketFrom (a .w) (a .code)))) (order-refused (a .w) (a .code) (r .if1 .left) (order d ∙ c .if2 .taken))
 
 returns-3 : tie.Need-returns-3
 returns-3 c =
-    let a = c .before .before .before .before .before .args in
-    let f = as-four (a .w) (a .code) (c .before .before .before .bucket-from .result) (c .before .before .before .bucket-from .ensures) in
-    ap given (c .filled-of .ensures ∙ ap filledCount f)
-    ∙ sym (ap (λ (o : Option ℕ). unless o (filledCount (bucketFrom (a .w) (a .code)))) (passes (a .w) (a .code) (c .before .before .before .before .if1 .left) (ap descends (sym f) ∙ sym (c .before .before .descending .ensures) ∙ c .before .if2 .left)))
+    let d = c .before .before in
+    let b = d .before in
+    let r = b .before in
+    let a = r .before .args in
+    ap given (c .filled-of .ensures ∙ ap filledCount (as-four (a .w) (a .code) (b .bucket-from .result) (b .bucket-from .ensures)))
+    ∙ goes-on (given (filledCount (bucketFrom (a .w) (a .code)))) (bucket-passes (a .w) (a .code) (r .if1 .left) (order d ∙ c .before .if2 .left))
 
 pub check-code-spec : {M : Type 1} → statement M
 check-code-spec =
     tie.close
     (tie.spec
     returns
-    bucket-from-requires
-    array-read-descending
-    array-read-descending-2
-    array-read-descending-3
-    array-read-descending-4
-    descending-requires
+    (λ c κs. search needs)
+    (λ c. search needs)
+    (λ c. search needs)
+    (λ c. search needs)
+    (λ c. search needs)
+    (λ c κs. search needs)
     returns-2
-    array-read-filled-of
-    array-read-filled-of-2
-    array-read-filled-of-3
-    array-read-filled-of-4
-    filled-of-requires
+    (λ c. search needs)
+    (λ c. search needs)
+    (λ c. search needs)
+    (λ c. search needs)
+    (λ c κs. search needs)
     returns-3)

@@ -1,8 +1,7 @@
 use borrow.Author.Tests.{lt-ltb, le-ltb}
 use lib.Dec.{ltb}
-use mathlib.Core.Bool.{true}
-use mathlib.Core.Path.{_≡_, refl}
-use Rattle.packed.proofs.Computes.{descends-last}
+use mathlib.Core.Bool.{true, or-false}
+use mathlib.Core.Path.{_≡_, refl, sym}
 use Rattle.packed.proofs.descending.Statement.{statement}
 use Rattle.packed.proofs.descending.Tie as tie
 
@@ -13,7 +12,7 @@ returns-2 : tie.Need-returns-2
 returns-2 c = let a = c .before .before .args in rw (le-ltb (a .b) (a .a) (c .before .if1 .left), lt-ltb (a .c) (a .b) (c .if2 .taken)) refl
 
 returns-3 : tie.Need-returns-3
-returns-3 c = let a = c .before .before .args in descends-last (a .a) (a .b) (a .c) (a .d) (c .before .if1 .left) (c .if2 .left)
+returns-3 c = let a = c .before .before .args in rw (le-ltb (a .b) (a .a) (c .before .if1 .left), le-ltb (a .c) (a .b) (c .if2 .left)) (sym (or-false (ltb (a .d) (a .c))))
 
 pub descending-spec : {M : Type 1} → statement M
 descending-spec = tie.close (tie.spec returns returns-2 returns-3)

@@ -6,7 +6,7 @@ use mathlib.Core.Path.{ap₂}
 use native.Mathlib.Nat.{div-one}
 use native.Mathlib.Omega.{arith}
 use Rattle.lemmas.specs.Bytes.{bytesOf}
-use Rattle.packed.proofs.Computes.{emitted, byte-past, emitted-length}
+use Rattle.packed.proofs.Bytes.{emitted, byte-past, emitted-length}
 use Rattle.packed.proofs.emit.Statement.{statement}
 use Rattle.packed.proofs.emit.Tie as tie
 

@@ -1,60 +1,30 @@
 use lib.ListN.{length-set}
 use native.Mathlib.Omega.{arith}
-use Rattle.packed.proofs.Computes.{put-eight}
+use Rattle.packed.proofs.Bytes.{put-eight}
 use borrow.Author.Needs.{needs}
 use Rattle.packed.proofs.emit_word.Statement.{statement}
 use Rattle.packed.proofs.emit_word.Tie as tie
 
-cast-part : tie.Need-cast-part
-cast-part c = search needs
-
-slice-write-part : tie.Need-slice-write-part
-slice-write-part c = search needs
-
-cast-part-2 : tie.Need-cast-part-2
-cast-part-2 c = search needs
-
 slice-write-part-2 : tie.Need-slice-write-part-2
 slice-write-part-2 c = simp length-set (omega arith)
-
-cast-part-3 : tie.Need-cast-part-3
-cast-part-3 c = search needs
 
 slice-write-part-3 : tie.Need-slice-write-part-3
 slice-write-part-3 c = simp length-set (omega arith)
 
-cast-part-4 : tie.Need-cast-part-4
-cast-part-4 c = search needs
-
 slice-write-part-4 : tie.Need-slice-write-part-4
 slice-write-part-4 c = simp length-set (omega arith)
-
-cast-part-5 : tie.Need-cast-part-5
-cast-part-5 c = search needs
 
 slice-write-part-5 : tie.Need-slice-write-part-5
 slice-write-part-5 c = simp length-set (omega arith)
 
-cast-part-6 : tie.Need-cast-part-6
-cast-part-6 c = search needs
-
 slice-write-part-6 : tie.Need-slice-write-part-6
 slice-write-part-6 c = simp length-set (omega arith)
-
-cast-part-7 : tie.Need-cast-part-7
-cast-part-7 c = search needs
 
 slice-write-part-7 : tie.Need-slice-write-part-7
 slice-write-part-7 c = simp length-set (omega arith)
 
-cast-part-8 : tie.Need-cast-part-8
-cast-part-8 c = search needs
-
 slice-write-part-8 : tie.Need-slice-write-part-8
 slice-write-part-8 c = simp length-set (omega arith)
-
-same-length : tie.Need-same-length
-same-length c = search needs
 
 returns : tie.Need-returns
 returns c = put-eight (c .args .part .now) (c .args .word) (c .fits .word .fits) (c .pre)
@@ -63,21 +33,21 @@ pub emit-word-spec : {M : Type 1} → statement M
 emit-word-spec =
     tie.close
     (tie.spec
-    cast-part
-    slice-write-part
-    cast-part-2
+    (λ c. search needs)
+    (λ c. search needs)
+    (λ c. search needs)
     slice-write-part-2
-    cast-part-3
+    (λ c. search needs)
     slice-write-part-3
-    cast-part-4
+    (λ c. search needs)
     slice-write-part-4
-    cast-part-5
+    (λ c. search needs)
     slice-write-part-5
-    cast-part-6
+    (λ c. search needs)
     slice-write-part-6
-    cast-part-7
+    (λ c. search needs)
     slice-write-part-7
-    cast-part-8
+    (λ c. search needs)
     slice-write-part-8
-    same-length
+    (λ c. search needs)
     returns)

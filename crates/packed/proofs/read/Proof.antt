@@ -1,99 +1,79 @@
 use borrow.Author.Needs.{needs}
-use lib.ListN.{length}
-use mathlib.Core.Option.{none}
-use mathlib.Core.Path.{_≡_, sym, ap, _∙_}
 use native.Mathlib.Omega.{arith}
-use Rattle.index.specs.Settings.{settingsRefusal}
-use Rattle.packed.proofs.Outcomes.{read-refused, read-stopped, read-passing, read-given}
-use Rattle.packed.proofs.Refusals.{readRefusal, settings-pass, read-settings, read-table, read-short, read-long, read-passes}
+use Rattle.calls.specs.Calls.{Sound}
+use Rattle.calls.proofs.Writers.{table-passed}
+use Rattle.packed_form.proofs.Refusals.{read-stopped, read-short, read-long}
+use Rattle.packed.proofs.Reading.{call-stops, call-passes, call-stores}
+use Rattle.packed.specs.Internal.{Input}
 use Rattle.packed.proofs.read.Statement.{statement}
 use Rattle.packed.proofs.read.Tie as tie
-use Rattle.packed.specs.Answers.{unpackIs}
-use Rattle.packed.specs.Writer.{packedLength}
-use Rattle.packed.specs.declared.UnpackAnswer.{UnpackAnswer}
 
--- the settings have passed
-good : (c : tie.Else1) → settingsRefusal (c .before .before .before .before .args .s) ≡ none
-good c = settings-pass (c .before .before .before .before .args .s) (c .before .refusal .result) (c .before .refusal .ensures) (c .if1 .left)
+-- past the check of settings and table
+passes : (c : tie.Else1) → let a = c .before .before .before .before .before .args in Sound (a .s) (a .table .now)
+passes c = table-passed _ _ (c .before .table-refusal .ensures) (c .if1 .left)
 
--- every check before the buckets has passed
-exact : (c : tie.Else4) → length (c .before .before .before .before .before .before .before .before .before .args .bytes .now) ≡ packedLength (c .before .before .before .before .before .before .before .before .before .args .s)
-exact c = omega (arith, c .before .before .packed-length .ensures, c .before .if3 .left, c .if4 .left)
-
-passed : (c : tie.Else4) → readRefusal (c .before .before .before .before .before .before .before .before .before .args .s) (c .before .before .before .before .before .before .before .before .before .args .bytes .now) (c .before .before .before .before .before .before .before .before .before .args .table .now) ≡ none
-passed c = read-passes (c .before .before .before .before .before .before .before .before .before .args .s) (c .before .before .before .before .before .before .before .before .before .args .bytes .now) (c .before .before .before .before .before .before .before .before .before .args .table .now) (good (c .before .before .before .before .before)) (c .before .before .before .if2 .left) (exact c)
-
-refusal-requires : tie.Need-refusal-requires
-refusal-requires c κs = search needs
+-- and past those of the length
+input : (c : tie.Else3) → let a = c .before .before .before .before .before .before .before .before .args in Input (a .s) (a .bytes .now)
+input c =
+    let e = c .before in
+    let l = e .before in
+    record { settings = passes (l .before) .settings; size = omega (arith, l .packed-length .ensures, e .if2 .left, c .if3 .left) }
 
 returns : tie.Need-returns
-returns c = read-refused (c .before .before .before .before .args .s) (c .before .before .before .before .args .bytes .now) (c .before .before .before .before .args .table .now) (c .before .refusal .result) (read-settings (c .before .before .before .before .args .s) (c .before .before .before .before .args .bytes .now) (c .before .before .before .before .args .table .now) (c .before .refusal .result) (c .before .refusal .ensures) (c .if1 .taken))
-
-cast-cells : tie.Need-cast-cells
-cast-cells c = search needs
-
-mul-cells : tie.Need-mul-cells
-mul-cells c = search needs
-
-returns-2 : tie.Need-returns-2
-returns-2 c = read-refused (c .before .before .before .before .before .before .args .s) (c .before .before .before .before .before .before .args .bytes .now) (c .before .before .before .before .before .before .args .table .now) 5 (read-table (c .before .before .before .before .before .before .args .s) (c .before .before .before .before .before .before .args .bytes .now) (c .before .before .before .before .before .before .args .table .now) (good (c .before .before)) (c .if2 .taken))
+returns c = read-stopped _ _ _ (c .before .table-refusal .ensures) (c .if1 .taken)
 
 packed-length-requires : tie.Need-packed-length-requires
-packed-length-requires c κs = good (c .before .before)
+packed-length-requires c κs = passes c .settings
+
+returns-2 : tie.Need-returns-2
+returns-2 c = let l = c .before in read-short _ _ _ (passes (l .before)) (omega (arith, l .packed-length .ensures, c .if2 .taken))
 
 returns-3 : tie.Need-returns-3
-returns-3 c = read-refused (c .before .before .before .before .before .before .before .before .args .s) (c .before .before .before .before .before .before .before .before .args .bytes .now) (c .before .before .before .before .before .before .before .before .args .table .now) 11 (read-short (c .before .before .before .before .before .before .before .before .args .s) (c .before .before .before .before .before .before .before .before .args .bytes .now) (c .before .before .before .before .before .before .before .before .args .table .now) (good (c .before .before .before .before)) (c .before .before .if2 .left) (omega (arith, c .before .packed-length .ensures, c .if3 .taken)))
-
-returns-4 : tie.Need-returns-4
-returns-4 c = read-refused (c .before .before .before .before .before .before .before .before .before .args .s) (c .before .before .before .before .before .before .before .before .before .args .bytes .now) (c .before .before .before .before .before .before .before .before .before .args .table .now) 15 (read-long (c .before .before .before .before .before .before .before .before .before .args .s) (c .before .before .before .before .before .before .before .before .before .args .bytes .now) (c .before .before .before .before .before .before .before .before .before .args .table .now) (good (c .before .before .before .before .before)) (c .before .before .before .if2 .left) (omega (arith, c .before .before .packed-length .ensures, c .if4 .taken)))
-
-table-requires : tie.Need-table-requires
-table-requires c κs = search needs
+returns-3 c = let l = c .before .before in read-long _ _ _ (passes (l .before)) (omega (arith, l .packed-length .ensures, c .if3 .taken))
 
 check-buckets-requires : tie.Need-check-buckets-requires
-check-buckets-requires c κs = (c .before .table .ensures, good (c .before .before .before .before .before .before .before), exact (c .before .before))
+check-buckets-requires c κs = (c .before .table .ensures, input (c .before .before))
 
-enum-known-answer : tie.Need-enum-known-answer
-enum-known-answer c = search needs
-
-enum-told : tie.Need-enum-told
-enum-told c = search needs
-
-returns-5 : tie.Need-returns-5
-returns-5 c =
-    let e = c .enum-told .given .1 in
-    ap (λ (a : UnpackAnswer). record { answer = unpackIs a; cells = c .before .before .before .before .before .before .before .before .before .before .before .before .before .before .args .table .now }) e
-    ∙ read-stopped (c .before .before .before .before .before .before .before .before .before .before .before .before .before .before .args .s) (c .before .before .before .before .before .before .before .before .before .before .before .before .before .before .args .bytes .now) (c .before .before .before .before .before .before .before .before .before .before .before .before .before .before .args .table .now) (passed (c .before .before .before .before .before)) (c .enum-told .given .0 .0) (sym (ap unpackIs e) ∙ c .before .before .check-buckets .ensures)
+returns-4 : tie.Need-returns-4
+returns-4 c =
+    let k = c .before .before in
+    let e = k .before .before .before in
+    call-stops (passes (e .before .before .before)) (input e) _ (c .enum-told .given .1) (k .check-buckets .ensures)
 
 store-buckets-requires : tie.Need-store-buckets-requires
 store-buckets-requires c κs =
-    let d = c .before .before .before .before .before .before .before .before in
-    (c .before .before .before .before .before .before .before .table .ensures, good (c .before .before .before .before .before .before .before .before .before .before .before .before .before), exact (d), c .before .before .before .before .before .before .before .before .before .before .before .if2 .left, read-passing (c .before .before .before .before .before .before .before .before .before .before .before .before .before .before .before .before .before .args .s) (c .before .before .before .before .before .before .before .before .before .before .before .before .before .before .before .before .before .args .bytes .now) (c .before .before .before .before .before .before .before .before .before .before .before .before .before .before .before .before .before .args .table .now) (c .before .before .before .answer .given .0 .0) (sym (ap unpackIs (c .before .before .before .answer .given .1)) ∙ c .before .before .before .before .before .check-buckets .ensures))
+    let g = c .before .before .before in
+    let k = g .before .before in
+    let e = k .before .before .before in
+    let S = passes (e .before .before .before) in
+    (k .before .before .table .ensures, input e, S .size, call-passes S (input e) _ (g .answer .given .1) (k .check-buckets .ensures))
 
-same-length : tie.Need-same-length
-same-length c = search needs
-
-returns-6 : tie.Need-returns-6
-returns-6 c =
-    read-given (c .before .before .before .before .before .before .before .before .before .before .before .before .before .before .before .before .before .before .before .before .args .s) (c .before .before .before .before .before .before .before .before .before .before .before .before .before .before .before .before .before .before .before .before .args .bytes .now) (c .before .before .before .before .before .before .before .before .before .before .before .before .before .before .before .before .before .before .before .before .args .table .now) (passed (c .before .before .before .before .before .before .before .before .before .before .before)) (c .before .before .before .before .before .before .answer .given .0 .0) (c .before .before .store-buckets .last .1 .1 .1 .0) (sym (ap unpackIs (c .before .before .before .before .before .before .answer .given .1)) ∙ c .before .before .before .before .before .before .before .before .check-buckets .ensures) (c .before .before .store-buckets .ensures)
+returns-5 : tie.Need-returns-5
+returns-5 c =
+    let t = c .before .before in
+    let g = t .before .before .before .before in
+    let k = g .before .before in
+    let e = k .before .before .before in
+    call-stores (passes (e .before .before .before)) (input e) _ (g .answer .given .1) (k .check-buckets .ensures) (t .store-buckets .ensures)
 
 pub read-spec : {M : Type 1} → statement M
 read-spec =
     tie.close
     (tie.spec
-    refusal-requires
+    (λ c κs. search needs)
+    (λ c. search needs)
     returns
-    cast-cells
-    mul-cells
-    returns-2
     packed-length-requires
+    (λ c. search needs)
+    returns-2
+    (λ c. search needs)
     returns-3
-    returns-4
-    table-requires
+    (λ c κs. search needs)
     check-buckets-requires
-    enum-known-answer
-    enum-told
-    returns-5
+    (λ c. search needs)
+    (λ c. search needs)
+    (λ c. search needs)
+    returns-4
     store-buckets-requires
-    same-length
-    returns-6)
+    (λ c. search needs)
+    returns-5)

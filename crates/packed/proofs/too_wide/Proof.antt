@@ -1,16 +1,16 @@
 use Prim.Native.Nat.{ℕ, _≤_, _<_, _*_, _-_, _/_, _^_}
-use mathlib.Core.Bool.{_||_}
+use mathlib.Core.Bool.{_||_, or-false}
 use mathlib.Core.List.{List}
 use mathlib.Core.Path.{_≡_, refl, sym, ap, _∙_}
 use native.Mathlib.Omega.{arith}
 use lib.ListN.{length, getD, drop, drop-of-length-le}
-use Rattle.packed.proofs.Computes.{found, over-none, over-few, over-next}
-use Rattle.table.specs.Writing.{anyFrom}
+use Rattle.packed.proofs.Buckets.{some-over, over-few, over-next}
+use Rattle.calls.specs.WrittenForms.{anyFrom}
 use Rattle.packed.proofs.too_wide.Statement.{statement}
 use Rattle.packed.proofs.too_wide.Tie as tie
 
 abbrev Inv-loop : tie.InvT-loop
-Inv-loop w table over₀ i₀ over i = (i ≤ length table) × (over ≤ 4095 * i) × ((found over || anyFrom (2 ^ w) (drop i table)) ≡ anyFrom (2 ^ w) table)
+Inv-loop w table over₀ i₀ over i = (i ≤ length table) × (over ≤ 4095 * i) × ((some-over over || anyFrom (2 ^ w) (drop i table)) ≡ anyFrom (2 ^ w) table)
 
 abbrev μ-loop : tie.MeasureT-loop
 μ-loop w table over₀ i₀ over i = length table - i
@@ -30,8 +30,8 @@ cast-over c = omega (arith, c .shared-slice-known .given (c .before .before .loo
 shr-over : tie.Need-shr-over Inv-loop μ-loop
 shr-over c = omega arith
 
-few : (c : tie.After-shared-slice-known Inv-loop μ-loop) → getD (c .before .before .before .args .table .now) (c .before .before .loop .i) 0 / 2 ^ c .before .before .before .args .w < 4096
-few c = over-few (c .before .before .before .args .w) (getD (c .before .before .before .args .table .now) (c .before .before .loop .i) 0) (c .before .before .before .pre .0) (c .shared-slice-known .given (c .before .before .loop .i) .fits)
+few : (c : tie.After-shared-slice-known Inv-loop μ-loop) → let l = c .before .before in let s = l .before in getD (s .args .table .now) (l .loop .i) 0 / 2 ^ s .args .w < 4096
+few c = over-few _ _ (c .before .before .before .pre .0 .low) (c .shared-slice-known .given (c .before .before .loop .i) .fits)
 
 add-over : tie.Need-add-over Inv-loop μ-loop
 add-over c = omega (arith, few c)
@@ -43,10 +43,17 @@ loop-less : tie.Need-loop-less Inv-loop μ-loop
 loop-less c = omega arith
 
 loop-again : tie.Need-loop-again Inv-loop μ-loop
-loop-again c = (omega arith, omega (arith, few c), over-next (c .before .before .before .args .w) (c .before .before .before .args .table .now) (c .before .before .loop .i) (c .before .before .loop .over) (c .before .loop-test .taken) ∙ c .before .before .loop .inv .2)
+loop-again c =
+    let l = c .before .before in
+    let a = l .before .args in
+    (omega arith, omega (arith, few c), over-next (a .w) (a .table .now) (l .loop .i) (l .loop .over) (c .before .loop-test .taken) ∙ l .loop .inv .2)
 
 returns : tie.Need-returns Inv-loop μ-loop
-returns c = over-none (found (c .before .loop .over)) ∙ ap (λ (l : List ℕ). found (c .before .loop .over) || anyFrom (2 ^ c .before .before .args .w) l) (sym (drop-of-length-le (c .before .before .args .table .now) (c .loop-test .left))) ∙ c .before .loop .inv .2
+returns c =
+    let l = c .before in
+    let a = l .before .args in
+    let none-left = drop-of-length-le (a .table .now) (c .loop-test .left) in
+    sym (or-false (some-over (l .loop .over))) ∙ ap (λ (t : List ℕ). some-over (l .loop .over) || anyFrom (2 ^ a .w) t) (sym none-left) ∙ l .loop .inv .2
 
 pub too-wide-spec : {M : Type 1} → statement M
 too-wide-spec =

@@ -1,11 +1,12 @@
-use Prim.Native.Nat.{ℕ, _+_, _-_, _<_}
+use Prim.Native.Nat.{ℕ, _-_, _<_}
 use borrow.Author.Fill.{fill-none, fill-more}
 use borrow.Author.Needs.{needs}
 use lib.ListN.{length, set, drop, replicate, length-set}
 use mathlib.Core.List.{List, _++_}
 use mathlib.Core.Path.{_≡_, refl, ap, _∙_}
 use native.Mathlib.Omega.{arith}
-use Rattle.table.proofs.Guards.{passed, clear-stopped, clear-done}
+use Rattle.table.proofs.Guards.{clear-stopped, clear-done}
+use Rattle.calls.proofs.Writers.{table-passed}
 use Rattle.table.proofs.clear.Statement.{statement}
 use Rattle.table.proofs.clear.Tie as tie
 
@@ -15,20 +16,11 @@ Inv-loop table₀ n i₀ table i = (table ≡ replicate i 0 ++ drop i table₀) 
 abbrev μ-loop : tie.MeasureT-loop
 μ-loop table₀ n i₀ table i = length table₀ - i
 
-table-refusal-requires : tie.Need-table-refusal-requires Inv-loop μ-loop
-table-refusal-requires c κs = search needs
-
-same-length : tie.Need-same-length Inv-loop μ-loop
-same-length c = search needs
-
 returns : tie.Need-returns Inv-loop μ-loop
-returns c = let a = c .before .before .before .before .args in clear-stopped (a .s) (a .table .now) (c .before .table-refusal .result) (c .before .table-refusal .ensures) (c .if1 .taken)
+returns c = clear-stopped _ _ (c .before .table-refusal .ensures) (c .if1 .taken)
 
 loop-holds : tie.Need-loop-holds Inv-loop μ-loop
 loop-holds c = (fill-none _ 0, refl)
-
-mul-table : tie.Need-mul-table Inv-loop μ-loop
-mul-table c = search needs
 
 slice-write-table : tie.Need-slice-write-table Inv-loop μ-loop
 slice-write-table c = omega arith
@@ -51,10 +43,8 @@ same-length-2 c = c .before .loop .inv .1
 
 returns-2 : tie.Need-returns-2 Inv-loop μ-loop
 returns-2 c =
-    let a = c .before .before .before .before .before .before .args in
-    let t = c .before .before .before .table-refusal in
-    let P = passed (a .s) (a .table .now) (t .result) (t .ensures) (c .before .before .if1 .left) in
-    clear-done (a .s) (a .table .now) P (c .before .loop .table) (c .before .loop .i) (c .before .loop .inv .0) (c .before .loop .inv .1) (c .loop-test .left)
+    let e = c .before .before in
+    clear-done _ _ (table-passed _ _ (e .before .table-refusal .ensures) (e .if1 .left)) _ (c .before .loop .i) (c .before .loop .inv .0) (c .before .loop .inv .1) (c .loop-test .left)
 
 pub clear-spec : {M : Type 1} → statement M
 clear-spec =
@@ -62,11 +52,11 @@ clear-spec =
     (tie.spec
     Inv-loop
     μ-loop
-    table-refusal-requires
-    same-length
+    (λ c κs. search needs)
+    (λ c. search needs)
     returns
     loop-holds
-    mul-table
+    (λ c. search needs)
     slice-write-table
     add-i
     loop-less

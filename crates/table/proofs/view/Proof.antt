@@ -1,58 +1,46 @@
 use borrow.Author.Needs.{needs}
+use Prim.Native.Nat.{ℕ, _+_, _*_}
+use mathlib.Core.Path.{_≡_, ap, _∙_}
 use native.Mathlib.Omega.{arith}
 use Rattle.table.proofs.Guards.{view-none, view-inside, view-some}
 use Rattle.table.proofs.view.Statement.{statement}
 use Rattle.table.proofs.view.Tie as tie
 
-view-check-requires : tie.Need-view-check-requires
-view-check-requires c κs = search needs
-
-sub-result : tie.Need-sub-result
-sub-result c = search needs
-
-part-result-start : tie.Need-part-result-start
-part-result-start c = search needs
-
-part-result-end : tie.Need-part-result-end
-part-result-end c = search needs
-
 returns : tie.Need-returns
-returns c = let d = c .before in let a = d .before .before .before .args in view-none (a .s) (a .table .now) (a .bucket) (d .before .view-check .result) (d .before .view-check .ensures) (d .if1 .taken)
-
-mul-a : tie.Need-mul-a
-mul-a c = search needs
-
-add-e : tie.Need-add-e
-add-e c = search needs
-
-mul-result : tie.Need-mul-result
-mul-result c = search needs
-
-sub-result-2 : tie.Need-sub-result-2
-sub-result-2 c = search needs
-
-part-result-start-2 : tie.Need-part-result-start-2
-part-result-start-2 c = search needs
+returns c =
+    let d = c .before in
+    record { values = view-none _ _ _ _ (d .before .view-check .ensures) (d .if1 .taken); place = λ e. absurd (d .if1 .taken (d .before .view-check .ensures ∙ e)) }
 
 part-result-end-2 : tie.Need-part-result-end-2
-part-result-end-2 c = let a = c .before .before .before .args in omega (arith, view-inside (a .s) (a .table .now) (a .bucket) (c .before .view-check .result) (c .before .view-check .ensures) (c .if1 .left))
+part-result-end-2 c =
+    let a = c .before .before .before .args in
+    omega (arith, view-inside (a .s) (a .table .now) (a .bucket) _ (c .before .view-check .ensures) (c .if1 .left))
 
 returns-2 : tie.Need-returns-2
-returns-2 c = let d = c .before in let a = d .before .before .before .args in view-some (a .s) (a .table .now) (a .bucket) (d .before .view-check .result) (d .before .view-check .ensures) (d .if1 .left)
+returns-2 c =
+    let d = c .before in
+    let a = d .before .before .before .args in
+    record {
+      values = view-some (a .s) _ _ _ (d .before .view-check .ensures) (d .if1 .left);
+      place = λ e. ap (λ (x : ℕ). (a .table .ptr .0, x)) (behind (a .bucket) (a .table .ptr .1));
+    }
+  where
+    behind : (b o : ℕ) → 4 * b * 2 + o ≡ o + 2 * (4 * b)
+    behind b o = omega arith
 
 pub view-spec : {M : Type 1} → statement M
 view-spec =
     tie.close
     (tie.spec
-    view-check-requires
-    sub-result
-    part-result-start
-    part-result-end
+    (λ c κs. search needs)
+    (λ c. search needs)
+    (λ c. search needs)
+    (λ c. search needs)
     returns
-    mul-a
-    add-e
-    mul-result
-    sub-result-2
-    part-result-start-2
+    (λ c. search needs)
+    (λ c. search needs)
+    (λ c. search needs)
+    (λ c. search needs)
+    (λ c. search needs)
     part-result-end-2
     returns-2)

@@ -6,7 +6,7 @@ use native.Mathlib.Omega.{arith}
 use Rattle.commands.proofs.Digits.{PairAt, pair-at, pairs-length, laid-next, laid-length, laid-all}
 use Rattle.commands.proofs.tags.decode.Statement.{statement}
 use Rattle.commands.proofs.tags.decode.Tie as tie
-use Rattle.commands.specs.Tags.{hexPairs}
+use Rattle.commands.specs.Internal.{hexPairs}
 
 abbrev Inv-loop : tie.InvT-loop
 Inv-loop digits out₀ n i₀ out i = (i ≤ n) × (out ≡ take i (hexPairs digits) ++ drop i out₀)

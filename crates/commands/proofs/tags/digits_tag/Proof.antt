@@ -8,14 +8,11 @@ use native.Mathlib.Omega.{arith}
 use Rattle.commands.proofs.Digits.{pairs-length, not-hex, digits-out, none-refused, long-refused, is-given}
 use Rattle.commands.proofs.tags.digits_tag.Statement.{statement}
 use Rattle.commands.proofs.tags.digits_tag.Tie as tie
-use Rattle.commands.specs.Tags.{hexPasses, hexPairs}
+use Rattle.commands.specs.Internal.{hexPasses, hexPairs}
 
 -- all digits have passed
 passed : (c : tie.Else1) → hexPasses (c .before .before .before .args .digits .now) ≡ true
 passed c = sym (c .before .is-hex .ensures) ∙ not-false (c .before .is-hex .result) (c .if1 .left)
-
-is-hex-requires : tie.Need-is-hex-requires
-is-hex-requires c κs = search needs
 
 returns : tie.Need-returns
 returns c =
@@ -40,9 +37,10 @@ returns-4 c =
     let d = c .before .before in
     let a = d .before .before .before .before .before .args in
     let n = pairs-length (a .digits .now) in
-    is-given (hexPairs (a .digits .now)) (a .out .now) (length (a .digits .now) / 2) (c .decode .last .1 .0) (λ z. d .before .if2 .left (sym n ∙ z)) (omega (arith, n, d .if3 .left)) (sym n) (rw n (c .decode .ensures))
+    is-given (hexPairs (a .digits .now)) (a .out .now) (length (a .digits .now) / 2) (c .decode .last .1 .0)
+    (λ z. d .before .if2 .left (sym n ∙ z)) (omega (arith, n, d .if3 .left)) (sym n) (rw n (c .decode .ensures))
     ∙ digits-out (a .digits .now) (a .out .now) (passed (d .before .before))
 
 pub digits-tag-spec : {M : Type 1} → statement M
 digits-tag-spec =
-    tie.close (tie.spec is-hex-requires returns returns-2 returns-3 decode-requires returns-4)
+    tie.close (tie.spec (λ c κs. search needs) returns returns-2 returns-3 decode-requires returns-4)

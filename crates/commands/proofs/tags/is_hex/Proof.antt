@@ -3,7 +3,7 @@ use lib.ListN.{length, drop}
 use mathlib.Core.Path.{_≡_, refl, sym, _∙_}
 use native.Mathlib.Omega.{arith}
 use Rattle.commands.proofs.Digits.{pair-next, pair-first, pair-second, pair-last}
-use Rattle.commands.specs.Tags.{hexPasses}
+use Rattle.commands.specs.Internal.{hexPasses}
 use Rattle.commands.proofs.tags.is_hex.Statement.{statement}
 use Rattle.commands.proofs.tags.is_hex.Tie as tie
 

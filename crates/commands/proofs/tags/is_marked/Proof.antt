@@ -7,18 +7,12 @@ use Rattle.commands.proofs.tags.is_marked.Tie as tie
 returns : tie.Need-returns
 returns c = sym (mark-short (c .before .args .text .now) (c .if1 .taken))
 
-shared-slice-read-if2 : tie.Need-shared-slice-read-if2
-shared-slice-read-if2 c = search needs
-
 returns-2 : tie.Need-returns-2
 returns-2 c = sym (mark-first (c .before .before .before .args .text .now) (c .before .before .if1 .left) (c .if2 .taken))
-
-shared-slice-read-result : tie.Need-shared-slice-read-result
-shared-slice-read-result c = search needs
 
 returns-3 : tie.Need-returns-3
 returns-3 c = sym (mark-second (c .before .before .before .before .args .text .now) (c .before .before .before .if1 .left) (c .before .if2 .left))
 
 pub is-marked-spec : {M : Type 1} → statement M
 is-marked-spec =
-    tie.close (tie.spec returns shared-slice-read-if2 returns-2 shared-slice-read-result returns-3)
+    tie.close (tie.spec returns (λ c. search needs) returns-2 (λ c. search needs) returns-3)

@@ -1,6 +1,7 @@
 use borrow.Author.Needs.{needs}
 use lib.ListN.{length}
 use mathlib.Core.Path.{refl}
+use native.Mathlib.Omega.{arith}
 use Rattle.commands.proofs.Digits.{none-refused, long-refused, is-given}
 use Rattle.commands.proofs.tags.text_tag.Statement.{statement}
 use Rattle.commands.proofs.tags.text_tag.Tie as tie
@@ -13,10 +14,7 @@ returns c =
 returns-2 : tie.Need-returns-2
 returns-2 c =
     let a = c .before .before .before .args in
-    long-refused (a .text .now) (a .out .now) (c .if2 .taken)
-
-copy-requires : tie.Need-copy-requires
-copy-requires c κs = search needs
+    long-refused (a .text .now) (a .out .now) (omega arith)
 
 returns-3 : tie.Need-returns-3
 returns-3 c =
@@ -25,4 +23,4 @@ returns-3 c =
     is-given (a .text .now) (a .out .now) (length (a .text .now)) (c .copy .last .1 .0) (d .before .if1 .left) (d .if2 .left) refl (c .copy .ensures)
 
 pub text-tag-spec : {M : Type 1} → statement M
-text-tag-spec = tie.close (tie.spec returns returns-2 copy-requires returns-3)
+text-tag-spec = tie.close (tie.spec returns returns-2 (λ c κs. search needs) returns-3)

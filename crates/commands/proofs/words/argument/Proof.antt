@@ -1,17 +1,13 @@
 use borrow.Author.Needs.{needs}
+use mathlib.Core.Path.{ap, _∙_}
+use Rattle.commands.specs.Words.{afterWord}
 use Rattle.commands.specs.Commands.{argumentOf}
 use Rattle.commands.proofs.words.argument.Statement.{statement}
 use Rattle.commands.proofs.words.argument.Tie as tie
 
-trimmed-requires : tie.Need-trimmed-requires
-trimmed-requires c κs = search needs
-
-after-word-requires : tie.Need-after-word-requires
-after-word-requires c κs = search needs
-
 returns : tie.Need-returns
 unfolding argumentOf
-returns c = cc
+returns c = c .after-word .ensures ∙ ap afterWord (c .before .trimmed .ensures)
 
 pub argument-spec : {M : Type 1} → statement M
-argument-spec = tie.close (tie.spec trimmed-requires after-word-requires returns)
+argument-spec = tie.close (tie.spec (λ c κs. search needs) (λ c κs. search needs) returns)

@@ -5,7 +5,7 @@ use lib.ListN.{length, take}
 use lib.Seq.{take-length}
 use mathlib.Core.Path.{_≡_, sym, ap, _∙_}
 use native.Mathlib.Omega.{arith}
-use Rattle.commands.proofs.Turns.{trim-turn, trim-stop, trim-end}
+use Rattle.commands.proofs.Scanning.{trim-turn, trim-stop, trim-end}
 use Rattle.commands.specs.Words.{trimEnd}
 use Rattle.commands.proofs.words.end.Statement.{statement}
 use Rattle.commands.proofs.words.end.Tie as tie
@@ -19,27 +19,12 @@ abbrev μ-loop : tie.MeasureT-loop
 loop-holds : tie.Need-loop-holds Inv-loop μ-loop
 loop-holds c = (omega arith, ap trimEnd (take-length (c .before .args .text .now)))
 
-sub-blank : tie.Need-sub-blank Inv-loop μ-loop
-sub-blank c = search needs
-
-shared-slice-read-blank : tie.Need-shared-slice-read-blank Inv-loop μ-loop
-shared-slice-read-blank c = search needs
-
-blank-requires : tie.Need-blank-requires Inv-loop μ-loop
-blank-requires c κs = search needs
-
 returns : tie.Need-returns Inv-loop μ-loop
 returns c =
     let d = c .before .before .before .before in
     let l = d .before .before .args .text .now in
     let e = sym (c .before .blank .ensures) ∙ not-true (c .before .blank .result) (c .if1 .taken) in
     (omega arith, trim-stop l (d .loop .n) (c .before .before .before .loop-test .taken) (d .loop .inv .0) e ∙ d .loop .inv .1)
-
-sub-n : tie.Need-sub-n Inv-loop μ-loop
-sub-n c = search needs
-
-loop-less : tie.Need-loop-less Inv-loop μ-loop
-loop-less c = search needs
 
 loop-again : tie.Need-loop-again Inv-loop μ-loop
 loop-again c =
@@ -60,11 +45,11 @@ end-spec =
     Inv-loop
     μ-loop
     loop-holds
-    sub-blank
-    shared-slice-read-blank
-    blank-requires
+    (λ c. search needs)
+    (λ c. search needs)
+    (λ c κs. search needs)
     returns
-    sub-n
-    loop-less
+    (λ c. search needs)
+    (λ c. search needs)
     loop-again
     returns-2)

@@ -1,101 +1,46 @@
 use borrow.Author.Needs.{needs}
-use mathlib.Core.Path.{sym, _∙_}
-use Rattle.commands.specs.Commands.{named}
+use mathlib.Core.Path.{_≡_, sym, ap, _∙_}
+use Rattle.commands.specs.Commands.{asked, named}
+use Rattle.commands.specs.declared.Asks.{Asks}
 use Rattle.commands.proofs.words.named.Statement.{statement}
 use Rattle.commands.proofs.words.named.Tie as tie
 
-slice-aggregate-same : tie.Need-slice-aggregate-same
-slice-aggregate-same c = search needs
-
-same-requires : tie.Need-same-requires
-same-requires c κs = search needs
-
-with-text-requires : tie.Need-with-text-requires
-with-text-requires c κs = search needs
+-- what the name asks for, with what follows it
+by-name : (c : tie.After-keyword) {a : Asks} → c .keyword .result ≡ a → let s = c .before .before .before .args in asked a (s .rest .now) ≡ named (s .name .now) (s .rest .now)
+unfolding named
+by-name c e = ap (λ (x : Asks). asked x (c .before .before .before .args .rest .now)) (sym e ∙ c .keyword .ensures)
 
 returns : tie.Need-returns
-unfolding named
-returns c = rw (sym (c .before .before .same .ensures) ∙ c .before .if1 .taken) (c .with-text .ensures)
-
-slice-aggregate-same-2 : tie.Need-slice-aggregate-same-2
-slice-aggregate-same-2 c = search needs
-
-same-requires-2 : tie.Need-same-requires-2
-same-requires-2 c κs = search needs
-
-with-text-requires-2 : tie.Need-with-text-requires-2
-with-text-requires-2 c κs = search needs
+returns c = c .with-text .ensures ∙ by-name (c .before .before .before .before) (c .before .before .c .given .1)
 
 returns-2 : tie.Need-returns-2
-unfolding named
-returns-2 c =
-    let e1 = c .before .before .before .before in
-    rw (sym (e1 .before .same .ensures) ∙ e1 .if1 .left, sym (c .before .before .same2 .ensures) ∙ c .before .if2 .taken) (c .with-text2 .ensures)
-
-slice-aggregate-same-3 : tie.Need-slice-aggregate-same-3
-slice-aggregate-same-3 c = search needs
-
-same-requires-3 : tie.Need-same-requires-3
-same-requires-3 c κs = search needs
-
-with-text-requires-3 : tie.Need-with-text-requires-3
-with-text-requires-3 c κs = search needs
+returns-2 c = c .alone .ensures ∙ by-name (c .before .before .before .before) (c .before .before .c2 .given .1)
 
 returns-3 : tie.Need-returns-3
-unfolding named
-returns-3 c =
-    let e2 = c .before .before .before .before in
-    let e1 = e2 .before .before .before in
-    rw (sym (e1 .before .same .ensures) ∙ e1 .if1 .left, sym (e2 .before .same2 .ensures) ∙ e2 .if2 .left, sym (c .before .before .same3 .ensures) ∙ c .before .if3 .taken) (c .with-text3 .ensures)
-
-slice-aggregate-same-4 : tie.Need-slice-aggregate-same-4
-slice-aggregate-same-4 c = search needs
-
-same-requires-4 : tie.Need-same-requires-4
-same-requires-4 c κs = search needs
-
-viewed-requires : tie.Need-viewed-requires
-viewed-requires c κs = search needs
+returns-3 c = c .view-line .ensures ∙ by-name (c .before .before .before) (c .before .enum-told .given .1)
 
 returns-4 : tie.Need-returns-4
-unfolding named
-returns-4 c =
-    let e3 = c .before .before .before .before in
-    let e2 = e3 .before .before .before in
-    let e1 = e2 .before .before .before in
-    rw (sym (e1 .before .same .ensures) ∙ e1 .if1 .left, sym (e2 .before .same2 .ensures) ∙ e2 .if2 .left, sym (e3 .before .same3 .ensures) ∙ e3 .if3 .left, sym (c .before .before .same4 .ensures) ∙ c .before .if4 .taken) (c .viewed .ensures)
-
-named-whole-requires : tie.Need-named-whole-requires
-named-whole-requires c κs = search needs
+returns-4 c = c .settings-line .ensures ∙ by-name (c .before .before .before) (c .before .enum-told2 .given .1)
 
 returns-5 : tie.Need-returns-5
-unfolding named
-returns-5 c =
-    let e4 = c .before in
-    let e3 = e4 .before .before .before in
-    let e2 = e3 .before .before .before in
-    let e1 = e2 .before .before .before in
-    rw (sym (e1 .before .same .ensures) ∙ e1 .if1 .left, sym (e2 .before .same2 .ensures) ∙ e2 .if2 .left, sym (e3 .before .same3 .ensures) ∙ e3 .if3 .left, sym (e4 .before .same4 .ensures) ∙ e4 .if4 .left) (c .named-whole .ensures)
+returns-5 c = by-name (c .before .before) (c .enum-told3 .given .1)
 
 pub named-spec : {M : Type 1} → statement M
 named-spec =
     tie.close
     (tie.spec
-    slice-aggregate-same
-    same-requires
-    with-text-requires
+    (λ c κs. search needs)
+    (λ c. search needs)
+    (λ c κs. search needs)
+    (λ c. search needs)
+    (λ c κs. search needs)
+    (λ c. search needs)
+    (λ c κs. search needs)
+    (λ c. search needs)
+    (λ c κs. search needs)
+    (λ c. search needs)
     returns
-    slice-aggregate-same-2
-    same-requires-2
-    with-text-requires-2
     returns-2
-    slice-aggregate-same-3
-    same-requires-3
-    with-text-requires-3
     returns-3
-    slice-aggregate-same-4
-    same-requires-4
-    viewed-requires
     returns-4
-    named-whole-requires
     returns-5)

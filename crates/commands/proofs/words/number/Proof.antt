@@ -3,7 +3,8 @@ use borrow.Author.Needs.{needs}
 use lib.ListN.{length, drop}
 use mathlib.Core.Path.{_≡_, _∙_}
 use native.Mathlib.Omega.{arith}
-use Rattle.commands.proofs.Turns.{value-none, value-some, value-low, value-high, value-large, value-turn, value-end}
+use Rattle.commands.proofs.Choices.{empty, full}
+use Rattle.commands.proofs.Scanning.{value-low, value-high, value-large, value-turn, value-end}
 use Rattle.commands.specs.Numbers.{valueFrom, valueOf}
 use Rattle.commands.proofs.words.number.Statement.{statement}
 use Rattle.commands.proofs.words.number.Tie as tie
@@ -15,13 +16,12 @@ abbrev μ-loop : tie.MeasureT-loop
 μ-loop text n₀ i₀ n i = length text - i
 
 returns : tie.Need-returns Inv-loop μ-loop
-returns c = value-none (c .before .args .text .now) (c .if1 .taken)
+unfolding valueOf
+returns c = empty (c .before .args .text .now) _ _ (c .if1 .taken)
 
 loop-holds : tie.Need-loop-holds Inv-loop μ-loop
-loop-holds c = (omega arith, omega arith, value-some (c .before .args .text .now) (c .if1 .left))
-
-shared-slice-read-b : tie.Need-shared-slice-read-b Inv-loop μ-loop
-shared-slice-read-b c = search needs
+unfolding valueOf
+loop-holds c = (omega arith, omega arith, full (c .before .args .text .now) _ _ (c .if1 .left))
 
 returns-2 : tie.Need-returns-2 Inv-loop μ-loop
 returns-2 c =
@@ -35,35 +35,17 @@ returns-3 c =
     let l = d .before .before .args .text .now in
     value-high l (d .loop .i) (d .loop .n) (omega arith) (c .before .if2 .left) (c .if3 .taken) ∙ d .loop .inv .2
 
-mul-n : tie.Need-mul-n Inv-loop μ-loop
-mul-n c = search needs
-
-cast-n : tie.Need-cast-n Inv-loop μ-loop
-cast-n c = search needs
-
-add-n : tie.Need-add-n Inv-loop μ-loop
-add-n c = search needs
-
 returns-4 : tie.Need-returns-4 Inv-loop μ-loop
 returns-4 c =
     let d = c .before .before .before .before .before in
     let l = d .before .before .args .text .now in
     value-large l (d .loop .i) (d .loop .n) (omega arith) (c .before .before .if2 .left) (c .before .if3 .left) (omega arith) ∙ d .loop .inv .2
 
-add-i : tie.Need-add-i Inv-loop μ-loop
-add-i c = search needs
-
-loop-less : tie.Need-loop-less Inv-loop μ-loop
-loop-less c = search needs
-
 loop-again : tie.Need-loop-again Inv-loop μ-loop
 loop-again c =
     let d = c .before .before .before .before .before in
     let l = d .before .before .args .text .now in
     (omega arith, omega arith, value-turn l (d .loop .i) (d .loop .n) (omega arith) (c .before .before .if2 .left) (c .before .if3 .left) (omega arith) ∙ d .loop .inv .2)
-
-cast-t13 : tie.Need-cast-t13 Inv-loop μ-loop
-cast-t13 c = search needs
 
 returns-5 : tie.Need-returns-5 Inv-loop μ-loop
 returns-5 c = value-end (c .before .before .before .args .text .now) (c .before .loop .i) (c .before .loop .n) (c .loop-test .left) ∙ c .before .loop .inv .2
@@ -76,15 +58,15 @@ number-spec =
     μ-loop
     returns
     loop-holds
-    shared-slice-read-b
+    (λ c. search needs)
     returns-2
     returns-3
-    mul-n
-    cast-n
-    add-n
+    (λ c. search needs)
+    (λ c. search needs)
+    (λ c. search needs)
     returns-4
-    add-i
-    loop-less
+    (λ c. search needs)
+    (λ c. search needs)
     loop-again
-    cast-t13
+    (λ c. search needs)
     returns-5)

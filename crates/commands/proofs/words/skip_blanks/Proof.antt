@@ -1,24 +1,18 @@
+use Prim.Native.Nat.{ℕ}
 use borrow.Author.Needs.{needs}
-use mathlib.Core.Path.{_∙_}
-use Rattle.commands.proofs.Turns.{from}
+use lib.ListN.{drop}
+use mathlib.Core.Path.{ap, _∙_}
+use Rattle.commands.proofs.Scanning.{from}
+use Rattle.commands.specs.Words.{skipBlanks}
 use Rattle.commands.proofs.words.skip_blanks.Statement.{statement}
 use Rattle.commands.proofs.words.skip_blanks.Tie as tie
 
-blanks-requires : tie.Need-blanks-requires
-blanks-requires c κs = search needs
-
-sub-result : tie.Need-sub-result
-sub-result c = search needs
-
-part-result-start : tie.Need-part-result-start
-part-result-start c = search needs
-
-part-result-end : tie.Need-part-result-end
-part-result-end c = search needs
-
 returns : tie.Need-returns
-returns c = from (c .before .before .before .args .text .now) (c .before .blanks .result) ∙ c .before .blanks .ensures .1
+unfolding skipBlanks
+returns c =
+    let l = c .before .before .before .args .text .now in
+    from l (c .before .front .result) ∙ ap (λ (k : ℕ). drop k l) (c .before .front .ensures .1)
 
 pub skip-blanks-spec : {M : Type 1} → statement M
 skip-blanks-spec =
-    tie.close (tie.spec blanks-requires sub-result part-result-start part-result-end returns)
+    tie.close (tie.spec (λ c κs. search needs) (λ c. search needs) (λ c. search needs) (λ c. search needs) returns)

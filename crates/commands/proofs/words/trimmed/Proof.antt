@@ -1,17 +1,12 @@
 use borrow.Author.Needs.{needs}
-use Rattle.commands.specs.Words.{trim}
+use mathlib.Core.Path.{ap, _∙_}
+use Rattle.commands.specs.Words.{trimEnd, trim}
 use Rattle.commands.proofs.words.trimmed.Statement.{statement}
 use Rattle.commands.proofs.words.trimmed.Tie as tie
 
-skip-blanks-requires : tie.Need-skip-blanks-requires
-skip-blanks-requires c κs = search needs
-
-trim-end-requires : tie.Need-trim-end-requires
-trim-end-requires c κs = search needs
-
 returns : tie.Need-returns
 unfolding trim
-returns c = cc
+returns c = c .trim-end .ensures ∙ ap trimEnd (c .before .skip-blanks .ensures)
 
 pub trimmed-spec : {M : Type 1} → statement M
-trimmed-spec = tie.close (tie.spec skip-blanks-requires trim-end-requires returns)
+trimmed-spec = tie.close (tie.spec (λ c κs. search needs) (λ c κs. search needs) returns)

@@ -1,96 +1,78 @@
 use Prim.Native.Nat.{_-_, _<_, _≤_, _+_, _*_, ℕ}
 use borrow.Author.Needs.{needs}
 use lib.ListN.{drop, length, take}
-use mathlib.Core.List.{List, _∷_}
-use mathlib.Core.Path.{_≡_, refl, sym, _∙_, ap, subst}
+use mathlib.Core.List.{_∷_}
+use mathlib.Core.Path.{_≡_, refl, sym, _∙_, ap}
 use native.Mathlib.Omega.{arith}
 use Rattle.index.proofs.Laws.{laws}
 use Rattle.index.specs.Candidates.{candidates}
-use Rattle.index.specs.Checks.{numberOf}
-use Rattle.lemmas.specs.Count.{_among_}
-use Rattle.table.proofs.Guards.{Passed, passed, list-is, few}
-use Rattle.table.proofs.Turns.{AtQueue, AtCell, AtOther, other-on, cell-on, queue-on, queue-ends, ends-found, next-of, next-among, none-left}
+use Rattle.table.proofs.Guards.{Placing, list-is, few}
+use Rattle.table.proofs.Scans.{next-of, next-among, none-left}
+use Rattle.table.proofs.Walks.{state, AtQueue, AtCell, AtOther, since-start, other-on, cell-on, queue-on, queue-ends, ends-found}
 use Rattle.table.proofs.search.find_path.Statement.{statement}
 use Rattle.table.proofs.search.find_path.Tie as tie
-use Rattle.table.specs.Answers.{placeIs}
-use Rattle.table.specs.Cells.{cell}
+use Rattle.table.specs.Internal.{placeIs}
+use Rattle.calls.specs.Cells.{cell}
 
 abbrev Inv-other : tie.InvT-other
-Inv-other s table scratch₀ roots m head tail₀ answer₀ b c n buckets k₀ scratch tail answer k = AtOther s table roots head c (take n buckets) scratch₀ tail₀ k₀ answer₀ scratch tail k answer
+Inv-other s table scratch₀ roots m head tail₀ answer₀ b c n buckets k₀ scratch tail answer k =
+    AtOther s table roots head c (take n buckets) (state scratch₀ tail₀ answer₀) k₀ (state scratch tail answer) k
 
 abbrev μ-other : tie.MeasureT-other
 μ-other s table scratch₀ roots m head tail₀ answer₀ b c n buckets k₀ scratch tail answer k = n - k
 
 abbrev Inv-cell : tie.InvT-cell
-Inv-cell s table scratch₀ roots m head tail₀ answer₀ b c₀ scratch tail answer c = AtCell s table roots head scratch₀ tail₀ c₀ answer₀ scratch tail c answer
+Inv-cell s table scratch₀ roots m head tail₀ answer₀ b c₀ scratch tail answer c =
+    AtCell s table roots head (state scratch₀ tail₀ answer₀) c₀ (state scratch tail answer) c
 
 abbrev μ-cell : tie.MeasureT-cell
 μ-cell s table scratch₀ roots m head tail₀ answer₀ b c₀ scratch tail answer c = 4 - c
 
 abbrev Inv-queue : tie.InvT-queue
-Inv-queue s table scratch₀ roots m head₀ tail₀ answer₀ scratch head tail answer = AtQueue s table roots scratch₀ head₀ tail₀ answer₀ scratch head tail answer
+Inv-queue s table scratch₀ roots m head₀ tail₀ answer₀ scratch head tail answer =
+    AtQueue s table roots (state scratch₀ tail₀ answer₀) head₀ (state scratch tail answer) head
 
 abbrev μ-queue : tie.MeasureT-queue
 μ-queue s table scratch₀ roots m head₀ tail₀ answer₀ scratch head tail answer = s .buckets - head
 
--- the settings and the table pass
-passes : (c : tie.Start Inv-other μ-other Inv-cell μ-cell Inv-queue μ-queue) → Passed (c .args .s) (c .args .table .now)
-passes c = passed (c .args .s) (c .args .table .now) 0 (sym (ap numberOf (c .pre .0))) refl
-
 -- at a cell, the list has the candidates of its entry
-inside : (c : tie.After-bucket-at Inv-other μ-other Inv-cell μ-cell Inv-queue μ-queue) → c .bucket-at .result < c .before .before .before .before .before .before .before .args .s .buckets
-inside c = c .bucket-at .ensures .0
-
-list : (c : tie.After-candidates Inv-other μ-other Inv-cell μ-cell Inv-queue μ-queue)
-    → take (c .candidates .result .count) (c .candidates .result .buckets)
-    ≡ candidates (c .before .before .before .before .before .before .before .before .before .before .before .args .s)
-    (cell (c .before .before .before .before .before .before .before .before .before .before .before .args .table .now) (4 * c .before .before .before .before .bucket-at .result + c .before .before .before .cell .c))
-    (c .before .before .before .before .bucket-at .result)
-list c =
+placing : (c : tie.After-candidates Inv-other μ-other Inv-cell μ-cell Inv-queue μ-queue)
+    → let b = c .before .before .before .before in let a = b .before .before .before .before .before .before .before .args in
+    Placing (a .s) (a .table .now) (cell (a .table .now) (4 * b .bucket-at .result + c .before .before .before .cell .c)) (b .bucket-at .result) (c .candidates .result)
+placing c =
     let b = c .before .before .before .before in
-    let a = b .before .before .before .before .before .before .before in
-    list-is (a .args .s) (a .args .table .now) (passes a) _ (b .bucket-at .result) (inside b) (c .candidates .result) (c .candidates .ensures)
+    record { pass = b .before .before .before .before .before .before .before .pre .0; home-in = b .bucket-at .ensures .0; lists = c .candidates .ensures }
 
 -- no more than four, which the array has
-counted : (c : tie.After-candidates Inv-other μ-other Inv-cell μ-cell Inv-queue μ-queue) → c .candidates .result .count ≤ 4
-counted c =
-    let b = c .before .before .before .before in
-    let a = b .before .before .before .before .before .before .before in
-    few (a .args .s) (a .args .table .now) (passes a) _ (b .bucket-at .result) (inside b) (c .candidates .result) (c .candidates .ensures)
+counted : (c : tie.After-wide Inv-other μ-other Inv-cell μ-cell Inv-queue μ-queue) → c .wide .result ≤ 4
+counted c = omega (arith, few (placing (c .before)), c .wide .ensures)
 
 places : (c : tie.After-wide Inv-other μ-other Inv-cell μ-cell Inv-queue μ-queue) → c .wide .result ≤ length (c .before .candidates .result .buckets)
-places c =
-    let e : length (c .before .candidates .result .buckets) ≡ 4 = search needs in
-    omega (arith, counted (c .before), c .wide .ensures)
-
--- the candidate that is looked at
-next : (c : tie.After-wide2 Inv-other μ-other Inv-cell μ-cell Inv-queue μ-queue)
-    → drop (c .before .before .before .other .k) (take (c .before .before .before .before .before .wide .result) (c .before .before .before .before .before .before .candidates .result .buckets))
-    ≡ c .wide2 .result ∷ drop (c .before .before .before .other .k + 1) (take (c .before .before .before .before .before .wide .result) (c .before .before .before .before .before .before .candidates .result .buckets))
-next c =
-    let o = c .before .before in
-    let n = o .before .before .before in
-    next-of (n .before .candidates .result .buckets) (n .wide .result) (o .before .other .k) (places n) (o .other-test .taken)
-    ∙ ap (λ (x : ℕ). x ∷ drop (o .before .other .k + 1) (take (n .wide .result) (n .before .candidates .result .buckets))) (sym (c .wide2 .ensures))
+places c = let e : length (c .before .candidates .result .buckets) ≡ 4 = search needs in omega (arith, counted c)
 
 -- the list as the loop has it
 listed : (c : tie.After-wide Inv-other μ-other Inv-cell μ-cell Inv-queue μ-queue)
-    → take (c .wide .result) (c .before .candidates .result .buckets)
-    ≡ candidates (c .before .before .before .before .before .before .before .before .before .before .before .before .args .s)
-    (cell (c .before .before .before .before .before .before .before .before .before .before .before .before .args .table .now) (4 * c .before .before .before .before .before .bucket-at .result + c .before .before .before .before .cell .c))
-    (c .before .before .before .before .before .bucket-at .result)
-listed c = ap (λ (x : ℕ). take x (c .before .candidates .result .buckets)) (c .wide .ensures) ∙ list (c .before)
+    → let b = c .before .before .before .before .before in let a = b .before .before .before .before .before .before .before .args in
+    take (c .wide .result) (c .before .candidates .result .buckets)
+    ≡ candidates (a .s) (cell (a .table .now) (4 * b .bucket-at .result + c .before .before .before .before .cell .c)) (b .bucket-at .result)
+listed c = ap (λ (x : ℕ). take x (c .before .candidates .result .buckets)) (c .wide .ensures) ∙ list-is (placing (c .before))
 
-below : (c : tie.After-wide2 Inv-other μ-other Inv-cell μ-cell Inv-queue μ-queue) → c .wide2 .result < c .before .before .before .before .before .before .before .before .before .before .before .before .before .before .before .before .before .args .s .buckets
+-- the candidate that is looked at
+next : (c : tie.After-wide2 Inv-other μ-other Inv-cell μ-cell Inv-queue μ-queue)
+    → let o = c .before .before .before in let n = o .before .before in let l = take (n .wide .result) (n .before .candidates .result .buckets) in
+    drop (o .other .k) l ≡ c .wide2 .result ∷ drop (o .other .k + 1) l
+next c =
+    let o = c .before .before in
+    let n = o .before .before .before in
+    rw (c .wide2 .ensures) (next-of (n .before .candidates .result .buckets) (n .wide .result) (o .before .other .k) (places n) (o .other-test .taken))
+
+below : (c : tie.After-wide2 Inv-other μ-other Inv-cell μ-cell Inv-queue μ-queue)
+    → let b = c .before .before .before .before .before .before .before .before .before .before in
+    c .wide2 .result < b .before .before .before .before .before .before .before .args .s .buckets
 below c =
     let n = c .before .before .before .before .before in
-    let b = n .before .before .before .before .before in
-    let a = b .before .before .before .before .before .before .before in
-    laws (a .args .s) (passes a .good) .below _ (b .bucket-at .result) (c .wide2 .result) (inside b)
-    (subst (λ (l : List ℕ). c .wide2 .result among l) (listed n) (next-among _ (c .before .before .before .other .k) (c .wide2 .result) (next c)))
-
-cast-m : tie.Need-cast-m Inv-other μ-other Inv-cell μ-cell Inv-queue μ-queue
-cast-m c = search needs
+    let K = placing (n .before) in
+    laws _ (K .pass .settings) .below _ _ (c .wide2 .result) (K .home-in) (rw (listed n) at (next-among _ (c .before .before .before .other .k) (c .wide2 .result) (next c)))
 
 queue-holds : tie.Need-queue-holds Inv-other μ-other Inv-cell μ-cell Inv-queue μ-queue
 queue-holds c = record { len = refl; sparse = c .before .before .before .pre .1 .0; order = omega arith; rooted = omega arith; kept = refl; same = refl }
@@ -100,7 +82,7 @@ bucket-at-requires :
 bucket-at-requires c κs = let l = c .before in (l .before .queue .inv .sparse, l .queue-test .taken)
 
 cell-holds : tie.Need-cell-holds Inv-other μ-other Inv-cell μ-cell Inv-queue μ-queue
-cell-holds c = record { len = refl; sparse = c .before .before .before .queue .inv .sparse; order = omega arith; cells = omega arith; kept = refl; entry = refl; same = refl }
+cell-holds c = record { since = since-start _ _ _ (c .before .before .before .queue .inv .sparse); cells = omega arith; same = refl }
 
 mul-candidates : tie.Need-mul-candidates Inv-other μ-other Inv-cell μ-cell Inv-queue μ-queue
 mul-candidates c = omega arith
@@ -113,29 +95,21 @@ mul-candidates-2 c = omega arith
 
 shared-slice-read-candidates :
     tie.Need-shared-slice-read-candidates Inv-other μ-other Inv-cell μ-cell Inv-queue μ-queue
-shared-slice-read-candidates c = let b = c .before .before .before in omega (arith, inside b, passes (b .before .before .before .before .before .before .before) .size)
+shared-slice-read-candidates c =
+    let b = c .before .before .before in
+    omega (arith, b .bucket-at .ensures .0, b .before .before .before .before .before .before .before .pre .0 .size)
 
 cast-candidates : tie.Need-cast-candidates Inv-other μ-other Inv-cell μ-cell Inv-queue μ-queue
-cast-candidates c = let b = c .before .before .before in omega (arith, inside b, b .before .before .before .queue .inv .sparse .small)
-
-candidates-requires :
-    tie.Need-candidates-requires Inv-other μ-other Inv-cell μ-cell Inv-queue μ-queue
-candidates-requires c κs = search needs
-
-wide-requires : tie.Need-wide-requires Inv-other μ-other Inv-cell μ-cell Inv-queue μ-queue
-wide-requires c κs = search needs
+cast-candidates c = let b = c .before .before .before in omega (arith, b .bucket-at .ensures .0, b .before .before .before .queue .inv .sparse .small)
 
 other-holds : tie.Need-other-holds Inv-other μ-other Inv-cell μ-cell Inv-queue μ-queue
-other-holds c = record { len = refl; sparse = c .before .before .before .before .before .cell .inv .sparse; order = omega arith; later = omega arith; kept = refl; entry = refl; same = refl }
+other-holds c = record { since = since-start _ _ _ (c .before .before .before .before .before .cell .inv .since .sparse); later = omega arith; same = refl }
 
 mul-wide : tie.Need-mul-wide Inv-other μ-other Inv-cell μ-cell Inv-queue μ-queue
-mul-wide c = omega (arith, counted (c .before .before .before .before .before), c .before .before .before .before .wide .ensures)
+mul-wide c = omega (arith, counted (c .before .before .before .before))
 
 array-read-wide : tie.Need-array-read-wide Inv-other μ-other Inv-cell μ-cell Inv-queue μ-queue
-array-read-wide c = omega (arith, counted (c .before .before .before .before .before), c .before .before .before .before .wide .ensures)
-
-wide-requires-2 : tie.Need-wide-requires-2 Inv-other μ-other Inv-cell μ-cell Inv-queue μ-queue
-wide-requires-2 c κs = search needs
+array-read-wide c = omega (arith, counted (c .before .before .before .before))
 
 visit-requires : tie.Need-visit-requires Inv-other μ-other Inv-cell μ-cell Inv-queue μ-queue
 visit-requires c κs =
@@ -143,25 +117,18 @@ visit-requires c κs =
     let n = o .before .before in
     let l = n .before .before .before .before in
     let q = l .before .before .before .before in
-    let a = q .before .before .before .before in
-    let order : q .queue .head < o .other .tail = omega (arith, o .other .inv .order, l .cell .inv .order, l .before .before .before .queue-test .taken) in
-    (o .other .inv .sparse, (below c, omega arith, omega (arith, n .before .before .before .cell-test .taken), omega (arith, passes a .size)))
-
-enum-known-place : tie.Need-enum-known-place Inv-other μ-other Inv-cell μ-cell Inv-queue μ-queue
-enum-known-place c = search needs
+    let order : q .queue .head < o .other .tail = omega (arith, o .other .inv .since .order, l .cell .inv .since .order, l .before .before .before .queue-test .taken) in
+    (o .other .inv .since .sparse, (below c, omega arith, omega (arith, n .before .before .before .cell-test .taken), omega (arith, q .before .before .before .before .pre .0 .size)))
 
 sub-t36 : tie.Need-sub-t36 Inv-other μ-other Inv-cell μ-cell Inv-queue μ-queue
 sub-t36 c =
     let v = c .before .before .before .before .before in
     let o = v .before .before .before .before in
     let l = o .before .before .before .before .before .before in
-    omega (arith, v .visit .ensures .grows, o .other .inv .order, l .cell .inv .order, l .before .before .before .queue-test .taken)
-
-enum-told : tie.Need-enum-told Inv-other μ-other Inv-cell μ-cell Inv-queue μ-queue
-enum-told c = search needs
+    omega (arith, v .visit .ensures .grows, o .other .inv .since .order, l .cell .inv .since .order, l .before .before .before .queue-test .taken)
 
 add-k : tie.Need-add-k Inv-other μ-other Inv-cell μ-cell Inv-queue μ-queue
-add-k c = let o = c .before .before .before .before .before .before .before in omega (arith, o .other-test .taken, counted (o .before .before .before .before), o .before .before .before .wide .ensures)
+add-k c = let o = c .before .before .before .before .before .before .before in omega (arith, o .other-test .taken, counted (o .before .before .before))
 
 other-less : tie.Need-other-less Inv-other μ-other Inv-cell μ-cell Inv-queue μ-queue
 other-less c = omega arith
@@ -173,7 +140,8 @@ other-again c =
     let l = o .before .before .before .before .before .before in
     let q = l .before .before .before .before in
     let a = q .before .before .before .before in
-    other-on (a .pre .1 .1) (o .other .inv) (omega (arith, q .queue .inv .rooted, l .cell .inv .order)) (omega (arith, l .cell .inv .order, l .before .before .before .queue-test .taken))
+    let order = l .cell .inv .since .order in
+    other-on _ _ _ (a .pre .1 .1) (o .other .inv) (omega (arith, q .queue .inv .rooted, order)) (omega (arith, order, l .before .before .before .queue-test .taken))
     (v .visit .kept .1 .0) (next (v .before)) (v .visit .ensures) (sym (ap placeIs (c .enum-told .given .1)))
 
 add-c : tie.Need-add-c Inv-other μ-other Inv-cell μ-cell Inv-queue μ-queue
@@ -190,7 +158,8 @@ cell-again c =
     let b = l .before in
     let q = b .before .before .before in
     let a = q .before .before .before .before in
-    cell-on (a .pre .1 .1) (laws (a .args .s) (passes a .good)) (l .cell .inv) (omega (arith, n .before .before .before .cell-test .taken)) (b .bucket-at .result) (b .bucket-at .ensures .1) (listed n) (o .other .inv)
+    cell-on _ _ _ (a .pre .1 .1) (laws _ (a .pre .0 .settings)) (l .cell .inv) (omega (arith, n .before .before .before .cell-test .taken)) (b .bucket-at .result) (b .bucket-at .ensures .1) (listed n)
+    (o .other .inv)
     (none-left (n .before .candidates .result .buckets) (n .wide .result) (o .other .k) (places n) (c .other-test .left))
 
 add-head : tie.Need-add-head Inv-other μ-other Inv-cell μ-cell Inv-queue μ-queue
@@ -205,19 +174,13 @@ queue-again c =
     let b = l .before in
     let q = b .before .before .before in
     let a = q .before .before .before .before in
-    queue-on (a .pre .1 .1) (q .queue .inv) (b .before .before .queue-test .taken) (l .cell .inv) (c .cell-test .left)
-
-same-length : tie.Need-same-length Inv-other μ-other Inv-cell μ-cell Inv-queue μ-queue
-same-length c = search needs
+    queue-on _ _ _ (a .pre .1 .1) (q .queue .inv) (b .before .before .queue-test .taken) (l .cell .inv) (c .cell-test .left)
 
 returns : tie.Need-returns Inv-other μ-other Inv-cell μ-cell Inv-queue μ-queue
 returns c =
     let q = c .before in
     let a = q .before .before .before .before in
-    queue-ends (a .pre .1 .1) (q .queue .inv) (c .queue-test .left) refl
-
-same-length-2 : tie.Need-same-length-2 Inv-other μ-other Inv-cell μ-cell Inv-queue μ-queue
-same-length-2 c = search needs
+    queue-ends _ _ _ (a .pre .1 .1) (q .queue .inv) (c .queue-test .left) refl
 
 returns-2 : tie.Need-returns-2 Inv-other μ-other Inv-cell μ-cell Inv-queue μ-queue
 returns-2 c =
@@ -228,7 +191,7 @@ returns-2 c =
     let b = l .before in
     let q = b .before .before .before in
     let a = q .before .before .before .before in
-    ends-found (a .pre .1 .1) (laws (a .args .s) (passes a .good)) (q .queue .inv) (b .before .before .queue-test .taken) (l .cell .inv) (omega (arith, n .before .before .before .cell-test .taken))
+    ends-found _ _ _ (a .pre .1 .1) (laws _ (a .pre .0 .settings)) (q .queue .inv) (b .before .before .queue-test .taken) (l .cell .inv) (omega (arith, n .before .before .before .cell-test .taken))
     (b .bucket-at .result) (b .bucket-at .ensures .1) (listed n) (o .other .inv) (next (v .before)) (v .visit .ensures) (c .before .place .given .0 .0) (sym (ap placeIs (c .before .place .given .1)))
 
 pub find-path-spec : {M : Type 1} → statement M
@@ -241,7 +204,7 @@ find-path-spec =
     μ-cell
     Inv-queue
     μ-queue
-    cast-m
+    (λ c. search needs)
     queue-holds
     bucket-at-requires
     cell-holds
@@ -250,16 +213,16 @@ find-path-spec =
     mul-candidates-2
     shared-slice-read-candidates
     cast-candidates
-    candidates-requires
-    wide-requires
+    (λ c κs. search needs)
+    (λ c κs. search needs)
     other-holds
     mul-wide
     array-read-wide
-    wide-requires-2
+    (λ c κs. search needs)
     visit-requires
-    enum-known-place
+    (λ c. search needs)
     sub-t36
-    enum-told
+    (λ c. search needs)
     add-k
     other-less
     other-again
@@ -269,7 +232,7 @@ find-path-spec =
     add-head
     queue-less
     queue-again
-    same-length
+    (λ c. search needs)
     returns
-    same-length-2
+    (λ c. search needs)
     returns-2)

@@ -1,78 +1,37 @@
 use borrow.Author.Needs.{needs}
-use lib.ListN.{length}
 use mathlib.Core.Path.{sym, ap, _∙_}
+use native.Mathlib.Omega.{arith}
 use Rattle.index.specs.Answers.{tagEntryIs}
-use Rattle.table.proofs.Guards.{Passed, passed, home-inside}
-use Rattle.table.proofs.Holds.{by-table, by-scratch, by-tag, holds-refused, holds-placed}
+use Rattle.calls.specs.Calls.{Sound}
+use Rattle.table.proofs.Guards.{home-inside}
+use Rattle.calls.proofs.Writers.{table-passed}
+use Rattle.table.proofs.Placing.{hold-by-table, hold-by-scratch, hold-by-tag, hold-placed}
 use Rattle.table.proofs.search.hold.Statement.{statement}
 use Rattle.table.proofs.search.hold.Tie as tie
 
-passes : (c : tie.Else1) → let a = c .before .before .before .before .before .before .args in Passed (a .s) (a .table .now)
-passes c = passed _ _ (c .before .table-refusal .result) (c .before .table-refusal .ensures) (c .if1 .left)
-
-table-refusal-requires : tie.Need-table-refusal-requires
-table-refusal-requires c κs = search needs
-
-same-length : tie.Need-same-length
-same-length c = search needs
+passes : (c : tie.Else1) → let a = c .before .before .before .before .before .before .args in Sound (a .s) (a .table .now)
+passes c = table-passed _ _ (c .before .table-refusal .ensures) (c .if1 .left)
 
 returns : tie.Need-returns
-returns c =
-    let g = c .before .before .before .before .before .before .args in
-    holds-refused (g .s) (g .table .now) (g .scratch .now) (g .tag .now) (c .before .table-refusal .result)
-    (by-table (g .s) (g .table .now) (length (g .scratch .now)) (g .tag .now) (c .before .table-refusal .result) (c .before .table-refusal .ensures) (c .if1 .taken))
-
-cast-m : tie.Need-cast-m
-cast-m c = search needs
-
-mul-if2 : tie.Need-mul-if2
-mul-if2 c = search needs
-
-same-length-2 : tie.Need-same-length-2
-same-length-2 c = search needs
+returns c = hold-by-table _ _ _ _ (c .before .table-refusal .ensures) (c .if1 .taken)
 
 returns-2 : tie.Need-returns-2
-returns-2 c =
-    let e = c .before .before in
-    let g = e .before .before .before .before .before .before .args in
-    holds-refused (g .s) (g .table .now) (g .scratch .now) (g .tag .now) 6 (by-scratch (g .s) (g .table .now) (length (g .scratch .now)) (g .tag .now) (passes e) (c .if2 .taken))
-
-entry-of-requires : tie.Need-entry-of-requires
-entry-of-requires c κs = search needs
-
-enum-known-k : tie.Need-enum-known-k
-enum-known-k c = search needs
-
-enum-known-p : tie.Need-enum-known-p
-enum-known-p c = search needs
-
-same-length-3 : tie.Need-same-length-3
-same-length-3 c = search needs
+returns-2 c = hold-by-scratch _ _ _ _ (passes (c .before .before)) (omega (arith, c .if2 .taken))
 
 returns-3 : tie.Need-returns-3
 returns-3 c =
     let k = c .before in
     let t = k .before .before in
     let u = t .before in
-    let e = u .before .before in
-    let g = e .before .before .before .before .before .before .args in
-    holds-refused (g .s) (g .table .now) (g .scratch .now) (g .tag .now) _
-    (by-tag (g .s) (g .table .now) (length (g .scratch .now)) (g .tag .now) (passes e) (u .if2 .left) _ (sym (ap tagEntryIs (k .k .given .1)) ∙ t .entry-of .ensures))
+    hold-by-tag _ _ _ _ (passes (u .before .before)) (u .if2 .left) (sym (ap tagEntryIs (k .k .given .1)) ∙ t .entry-of .ensures)
 
 insert-requires : tie.Need-insert-requires
 insert-requires c κs =
     let k = c .before .before .before in
     let t = k .before .before in
     let u = t .before in
-    let e = u .before .before in
-    let g = e .before .before .before .before .before .before .args in
-    (passes e .none-met, (u .if2 .left, home-inside (g .s) (g .table .now) (passes e) (g .tag .now) _ _ (sym (ap tagEntryIs (k .p .given .1)) ∙ t .entry-of .ensures)))
-
-same-length-4 : tie.Need-same-length-4
-same-length-4 c = search needs
-
-same-length-5 : tie.Need-same-length-5
-same-length-5 c = search needs
+    let S = passes (u .before .before) in
+    (S, (u .if2 .left, home-inside _ _ _ S _ _ (sym (ap tagEntryIs (k .p .given .1)) ∙ t .entry-of .ensures)))
 
 returns-4 : tie.Need-returns-4
 returns-4 c =
@@ -80,27 +39,25 @@ returns-4 c =
     let k = n .before .before .before .before in
     let t = k .before .before in
     let u = t .before in
-    let e = u .before .before in
-    let g = e .before .before .before .before .before .before .args in
-    holds-placed (g .s) (g .table .now) (g .scratch .now) (g .tag .now) (passes e) _ _ (sym (ap tagEntryIs (k .p .given .1)) ∙ t .entry-of .ensures) (u .if2 .left) (n .insert .ensures)
+    hold-placed _ _ _ _ (passes (u .before .before)) (u .if2 .left) _ _ (sym (ap tagEntryIs (k .p .given .1)) ∙ t .entry-of .ensures) (n .insert .ensures)
 
 pub hold-spec : {M : Type 1} → statement M
 hold-spec =
     tie.close
     (tie.spec
-    table-refusal-requires
-    same-length
+    (λ c κs. search needs)
+    (λ c. search needs)
     returns
-    cast-m
-    mul-if2
-    same-length-2
+    (λ c. search needs)
+    (λ c. search needs)
+    (λ c. search needs)
     returns-2
-    entry-of-requires
-    enum-known-k
-    enum-known-p
+    (λ c κs. search needs)
+    (λ c. search needs)
+    (λ c. search needs)
     insert-requires
-    same-length-3
+    (λ c. search needs)
     returns-3
-    same-length-4
-    same-length-5
+    (λ c. search needs)
+    (λ c. search needs)
     returns-4)

@@ -1,158 +1,93 @@
 use borrow.Author.Needs.{needs}
-use lib.ListN.{take}
-use mathlib.Core.Option.{none}
-use mathlib.Core.Path.{_≡_, refl, sym, _∙_, ap}
+use mathlib.Core.Path.{sym, _∙_, ap}
 use native.Mathlib.Omega.{arith}
 use Rattle.index.proofs.Laws.{laws}
-use Rattle.index.specs.Checks.{numberOf}
-use Rattle.table.proofs.Guards.{passed}
-use Rattle.table.proofs.Holds.{Placing, placing-few, placing-inside, empty-inside, placed-told, some-root, exhausted-told, end-sparse, end-inside, moved-told}
+use Rattle.table.proofs.Guards.{Placing, few, inside}
+use Rattle.table.proofs.Placing.{empty-inside, placed-told, some-root, Searching, exhausted-told, end-sparse, end-inside, moved-told}
 use Rattle.table.proofs.search.insert.Statement.{statement}
 use Rattle.table.proofs.search.insert.Tie as tie
-use Rattle.table.specs.Answers.{placeIs}
-use Rattle.table.specs.Cells.{lowestEmpty, inFirst}
+use Rattle.table.specs.Internal.{placeIs}
 
 placing : (c : tie.After-candidates) → let a = c .before .before .before .before .args in Placing (a .s) (a .table .now) (a .p) (a .home) (c .candidates .result)
 placing c =
     let a = c .before .before .before .before in
-    record { pass = passed (a .args .s) (a .args .table .now) 0 (sym (ap numberOf (a .pre .0))) refl; home-in = a .pre .1 .1; lists = c .candidates .ensures }
+    record { pass = a .pre .0; home-in = a .pre .1 .1; lists = c .candidates .ensures }
 
--- no candidate has an empty cell
-full : (c : tie.After-enum-told) → let d = c .before .before .before .before in none ≡ inFirst (lowestEmpty (d .before .before .before .before .args .table .now)) (take (d .candidates .result .count) (d .candidates .result .buckets))
-full c = sym (ap placeIs (c .enum-told .given .1)) ∙ c .before .before .first-empty .ensures
-
-cast-m : tie.Need-cast-m
-cast-m c = search needs
-
-candidates-requires : tie.Need-candidates-requires
-candidates-requires c κs = search needs
+-- no candidate has an empty cell, and the search has ended
+searching : (c : tie.After-find-path)
+    → let r = c .before .before .before .before .before in let d = r .before .before .before .before .before .before in let a = d .before .before .before .before .args in
+    Searching (a .s) (a .table .now) (a .p) (a .home) (d .candidates .result) (r .seed .last .0) (r .seed .result) (c .find-path .result) (c .find-path .last .1 .1 .0)
+searching c =
+    let r = c .before .before .before .before .before in
+    let m = r .before .before in
+    let f = m .before .before in
+    record { placing = placing (f .before .before); rooted = r .seed .ensures .1; full = sym (ap placeIs (m .enum-told .given .1)) ∙ f .first-empty .ensures; ends = c .find-path .ensures }
 
 first-empty-requires : tie.Need-first-empty-requires
-first-empty-requires c κs =
-    let d = c .before in
-    let g = d .before .before .before .before .args in
-    (placing-few (g .s) (g .table .now) (g .p) (g .home) _ (placing d), placing-inside (g .s) (g .table .now) (g .p) (g .home) _ (placing d))
-
-enum-known-i : tie.Need-enum-known-i
-enum-known-i c = search needs
+first-empty-requires c κs = let K = placing (c .before) in (few K, inside K)
 
 write-cell-requires : tie.Need-write-cell-requires
 write-cell-requires c κs =
     let e = c .before .before in
     let f = e .before .before in
-    let d = f .before .before in
-    let g = d .before .before .before .before .args in
-    (empty-inside (g .s) (g .table .now) (g .p) (g .home) _ (placing d) _ (f .first-empty .ensures) (e .i .given .0 .0) (ap placeIs (e .i .given .1)), omega (arith, placing d .pass .size))
-
-enum-told : tie.Need-enum-told
-enum-told c = search needs
+    let K = placing (f .before .before) in
+    (empty-inside K (f .first-empty .ensures) (e .i .given .0 .0) (ap placeIs (e .i .given .1)), omega (arith, K .pass .size))
 
 seed-requires : tie.Need-seed-requires
 seed-requires c κs =
     let d = c .before .before .before .before .before in
     let a = d .before .before .before .before in
-    let g = a .args in (
-      (a .pre .1 .0, laws (g .s) (placing d .pass .good) .few-buckets, placing-few (g .s) (g .table .now) (g .p) (g .home) _ (placing d)),
-      λ x k. omega (arith, placing d .pass .size, placing-inside (g .s) (g .table .now) (g .p) (g .home) _ (placing d) x k),
-    )
+    let K = placing d in
+    ((a .pre .1 .0, laws (a .args .s) (K .pass .settings) .few-buckets, few K), λ x k. omega (arith, K .pass .size, inside K x k))
 
 find-path-requires : tie.Need-find-path-requires
 find-path-requires c κs =
     let r = c .before .before .before .before in
-    let d = r .before .before .before .before .before .before in
-    let a = d .before .before .before .before in
-    let g = a .args in
-    (a .pre .0, (r .seed .ensures .0, some-root (g .s) (g .table .now) (g .p) (g .home) _ (placing d) (r .seed .last .0) (r .seed .result) (r .seed .ensures .1)))
-
-enum-known-i-2 : tie.Need-enum-known-i-2
-enum-known-i-2 c = search needs
+    let K = placing (r .before .before .before .before .before .before) in
+    (K .pass, (r .seed .ensures .0, some-root K _ _ (r .seed .ensures .1)))
 
 relocate-requires : tie.Need-relocate-requires
 relocate-requires c κs =
     let e = c .before .before .before in
-    let f = e .before .before .before .before in
-    let r = f .before .before .before .before .before in
-    let m = r .before .before in
-    let d = m .before .before .before .before in
-    let g = d .before .before .before .before .args in
-    let i = e .i2 .given .0 .0 in
-    let last = e .i2 .given .0 .1 .0 in (
-      end-sparse (g .s) (g .table .now) (g .p) (g .home) _ (placing d) (r .seed .last .0) (r .seed .result) (r .seed .ensures .1) (full m) (f .find-path .ensures) i last (e .i2 .given .1),
-      (
-        some-root (g .s) (g .table .now) (g .p) (g .home) _ (placing d) (r .seed .last .0) (r .seed .result) (r .seed .ensures .1),
-        placing d .pass .size,
-        end-inside (g .s) (g .table .now) (g .p) (g .home) _ (placing d) (r .seed .last .0) (r .seed .result) (r .seed .ensures .1) (full m) (f .find-path .ensures) i last (e .i2 .given .1),
-      ),
-    )
-
-enum-told-2 : tie.Need-enum-told-2
-enum-told-2 c = search needs
-
-same-length : tie.Need-same-length
-same-length c = search needs
+    let K = searching (e .before .before .before .before) in
+    (end-sparse K (e .i2 .given .1), (some-root (K .placing) _ _ (K .rooted), K .placing .pass .size, end-inside K (e .i2 .given .1)))
 
 returns : tie.Need-returns
 returns c =
     let w = c .before .before in
     let e = w .before .before .before in
     let f = e .before .before in
-    let d = f .before .before in
-    let g = d .before .before .before .before .args in
-    placed-told (g .s) (g .table .now) (g .p) (g .home) _ (placing d) _ (f .first-empty .ensures) (e .i .given .0 .0) (ap placeIs (e .i .given .1)) (w .write-cell .last .0) (w .write-cell .ensures)
-
-same-length-2 : tie.Need-same-length-2
-same-length-2 c = search needs
-
-same-length-3 : tie.Need-same-length-3
-same-length-3 c = search needs
+    placed-told (placing (f .before .before)) (f .first-empty .ensures) (ap placeIs (e .i .given .1)) (w .write-cell .ensures)
 
 returns-2 : tie.Need-returns-2
 returns-2 c =
     let x = c .before .before in
     let e = x .before .before .before .before in
-    let f = e .before .before .before .before in
-    let r = f .before .before .before .before .before in
-    let m = r .before .before in
-    let d = m .before .before .before .before in
-    let g = d .before .before .before .before .args in
-    moved-told (g .s) (g .table .now) (g .p) (g .home) _ (placing d) (r .seed .last .0) (r .seed .result) (r .seed .ensures .1) (full m) (f .find-path .ensures) (e .i2 .given .0 .0) (e .i2 .given .0 .1 .0) (e .i2 .given .1)
-    (x .relocate .result) (x .relocate .last .0) (x .relocate .ensures .0) (x .relocate .ensures .1)
-
-same-length-4 : tie.Need-same-length-4
-same-length-4 c = search needs
-
-same-length-5 : tie.Need-same-length-5
-same-length-5 c = search needs
+    moved-told (searching (e .before .before .before .before)) (e .i2 .given .1) (x .relocate .ensures .0) (x .relocate .ensures .1)
 
 returns-3 : tie.Need-returns-3
-returns-3 c =
-    let f = c .before .before .before .before in
-    let r = f .before .before .before .before .before in
-    let m = r .before .before in
-    let d = m .before .before .before .before in
-    let g = d .before .before .before .before .args in
-    exhausted-told (g .s) (g .table .now) (g .p) (g .home) _ (placing d) (r .seed .last .0) (r .seed .result) (r .seed .ensures .1) (full m) (f .find-path .ensures) (c .enum-told2 .given .1)
+returns-3 c = exhausted-told (searching (c .before .before .before .before)) (c .enum-told2 .given .1)
 
 pub insert-spec : {M : Type 1} → statement M
 insert-spec =
     tie.close
     (tie.spec
-    cast-m
-    candidates-requires
+    (λ c. search needs)
+    (λ c κs. search needs)
     first-empty-requires
-    enum-known-i
+    (λ c. search needs)
     write-cell-requires
-    enum-told
+    (λ c. search needs)
     seed-requires
     find-path-requires
-    enum-known-i-2
+    (λ c. search needs)
     relocate-requires
-    enum-told-2
-    same-length
+    (λ c. search needs)
+    (λ c. search needs)
     returns
-    same-length-2
-    same-length-3
+    (λ c. search needs)
+    (λ c. search needs)
     returns-2
-    same-length-4
-    same-length-5
+    (λ c. search needs)
+    (λ c. search needs)
     returns-3)

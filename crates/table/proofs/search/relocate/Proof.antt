@@ -1,9 +1,9 @@
-use Prim.Native.Nat.{_-_, _+_, _/_}
+use Prim.Native.Nat.{_/_}
 use borrow.Author.Needs.{needs}
 use mathlib.Core.Path.{refl, ap}
 use native.Mathlib.Omega.{arith}
 use Rattle.table.proofs.Scratch.{sparse-less}
-use Rattle.table.proofs.Turns.{AtMove, path-short, moves-on, moves-end}
+use Rattle.table.proofs.Walks.{AtMove, path-short, moves-on, moves-end}
 use Rattle.table.proofs.search.relocate.Statement.{statement}
 use Rattle.table.proofs.search.relocate.Tie as tie
 
@@ -34,15 +34,11 @@ mul-wide c = omega arith
 shared-slice-read-wide : tie.Need-shared-slice-read-wide Inv-loop μ-loop
 shared-slice-read-wide c = omega arith
 
-wide-requires : tie.Need-wide-requires Inv-loop μ-loop
-wide-requires c κs = search needs
-
 add-moves : tie.Need-add-moves Inv-loop μ-loop
 add-moves c =
     let l = c .before .before .before .before .before .before .before .before .before in
     let a = l .before .before .before in
-    let g = a .args in
-    omega (arith, path-short (g .m) (g .scratch .now) (g .roots) (g .last + 1) (a .pre .0) (omega arith) (g .last) (omega arith), l .loop .inv .counted)
+    omega (arith, path-short (a .pre .0) (a .args .roots) (omega arith) (a .args .last) (omega arith), l .loop .inv .counted)
 
 loop-less : tie.Need-loop-less Inv-loop μ-loop
 loop-less c =
@@ -56,23 +52,18 @@ loop-again c =
     let o = t .before .before .before in
     let l = o .before .before in
     let a = l .before .before .before in
-    let g = a .args in
-    moves-on (g .m) (g .scratch .now) (g .roots) (g .last + 1) (a .pre .0) (omega arith) (l .loop .inv) (o .before .loop-test .taken) (omega arith)
+    moves-on (a .pre .0) _ (omega arith) (l .loop .inv) (o .before .loop-test .taken) (omega arith)
     (o .origin .result) (c .wide .result / 65536) (omega arith) (o .origin .ensures .1) (ap (λ x. x / 65536) (c .wide .ensures)) (t .write-cell .kept .0) (t .write-cell .ensures)
 
 write-cell-requires-2 : tie.Need-write-cell-requires-2 Inv-loop μ-loop
 write-cell-requires-2 c κs = omega arith
-
-same-length : tie.Need-same-length Inv-loop μ-loop
-same-length c = search needs
 
 returns : tie.Need-returns Inv-loop μ-loop
 returns c =
     let t = c .before .before in
     let l = t .before .before .before in
     let a = l .before .before .before in
-    let g = a .args in
-    moves-end (g .m) (g .scratch .now) (g .roots) (g .last + 1) (a .pre .0) (omega arith) (l .loop .inv) (t .before .before .loop-test .left) (t .write-cell2 .last .0) (t .write-cell2 .ensures)
+    moves-end (a .pre .0) _ (omega arith) (l .loop .inv) (t .before .before .loop-test .left) (t .write-cell2 .last .0) (t .write-cell2 .ensures)
 
 pub relocate-spec : {M : Type 1} → statement M
 relocate-spec =
@@ -87,10 +78,10 @@ relocate-spec =
     write-cell-requires
     mul-wide
     shared-slice-read-wide
-    wide-requires
+    (λ c κs. search needs)
     add-moves
     loop-less
     loop-again
     write-cell-requires-2
-    same-length
+    (λ c. search needs)
     returns)

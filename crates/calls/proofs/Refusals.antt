@@ -1,0 +1,60 @@
+-- The checks of settings and table, and that the table and the model refuse alike: in a table of 4 × M cells 5 is never met.
+-- Assumes nothing.
+use mathlib.Core.Path.{_≡_, refl, sym, ap, _∙_}
+use mathlib.Core.Logic.{_≢_}
+use mathlib.Core.Bool.{not}
+use mathlib.Core.Option.{Option, none, some}
+use mathlib.Core.List.{List, [], _∷_, _++_}
+use Prim.Native.Nat.{ℕ, _*_, _≤_, _<_}
+use native.Mathlib.Omega.{arith}
+use borrow.Author.Tests.{eq-eqb, ne-eqb, eqb-true, not-false, lt-ltb, le-ltb}
+use lib.Dec.{eqb}
+use lib.ListN.{length}
+use Rattle.refusals.specs.Checks.{Check, firstMet, Numbered}
+use Rattle.refusals.specs.Laws.{Reached}
+use Rattle.refusals.proofs.Cursor.{start, met, passed, none-left, all-met, all-passed, parts-passed, not-met, numbered-both}
+use Rattle.index.specs.Settings.{settingsChecks, settingsRefusal}
+use Rattle.index.specs.Hash.{tagChecks}
+use Rattle.index.specs.declared.Settings.{Settings}
+use Rattle.index.proofs.Checks.{check-laws}
+use Rattle.calls.specs.Calls.{tableChecks, scratchChecks, Sound, taggedChecks, holdChecks}
+use Rattle.calls.specs.Model.{holdOf, releaseOf, lookupOf, modelChecks}
+use Rattle.calls.specs.Laws.{TableCheckLaws}
+
+module _ (s : Settings) (c : List ℕ) where
+  table-passes : Sound s c → firstMet (tableChecks s c) ≡ none
+  unfolding tableChecks
+  table-passes S = none-left (passed (all-passed (settingsChecks s) (_ ∷ []) (start _) (S .settings)) (ap not (eq-eqb (length c) (4 * s .buckets) (S .size))))
+
+  pub table-check-laws : TableCheckLaws s c
+  unfolding tableChecks scratchChecks
+  table-check-laws = record {
+    numbered = numbered-both (settingsChecks s) (_ ∷ []) (check-laws s .numbered) (omega arith, tt);
+    by-settings = λ n e. all-met (settingsChecks s) (_ ∷ []) (start _) e;
+    by-size = λ e h. met (all-passed (settingsChecks s) (_ ∷ []) (start _) e) (ap not (ne-eqb (length c) (4 * s .buckets) h));
+    sound = λ e.
+        let q = parts-passed (settingsChecks s) (_ ∷ []) e in
+        record { settings = q .0; size = eqb-true (length c) (4 * s .buckets) (not-false (eqb (length c) (4 * s .buckets)) (not-met _ [] (q .1) .0)) };
+    passes = table-passes;
+    scratch-passes = λ n h. none-left (passed (start (scratchChecks s n)) (le-ltb n (2 * s .buckets) h));
+    scratch-refused = λ n h. met (start (scratchChecks s n)) (lt-ltb n (2 * s .buckets) h);
+  }
+
+  module _ (size : length c ≡ 4 * s .buckets) where
+    -- whatever checks follow those of the table
+    without-five : (more : List Check) → firstMet (tableChecks s c ++ more) ≡ firstMet (settingsChecks s ++ more)
+    without-five more = go (firstMet (settingsChecks s)) refl
+      where
+        go : (o : Option ℕ) → firstMet (settingsChecks s) ≡ o → firstMet (tableChecks s c ++ more) ≡ firstMet (settingsChecks s ++ more)
+        go none e =
+            all-passed (tableChecks s c) more (start _) (table-passes (record { settings = e; size = size })) .decides
+            ∙ sym (all-passed (settingsChecks s) more (start _) e .decides)
+        go (some n) e = all-met (tableChecks s c) more (start _) (table-check-laws .by-settings n e) ∙ sym (all-met (settingsChecks s) more (start _) e)
+
+    pub hold-refusal : (t : List ℕ) (n : ℕ) → firstMet (holdChecks s c n t) ≡ firstMet (modelChecks s (holdOf t n))
+    unfolding holdChecks
+    hold-refusal t n = without-five (scratchChecks s n ++ tagChecks t)
+
+    pub tag-refusal : (t : List ℕ) → firstMet (taggedChecks s c t) ≡ firstMet (settingsChecks s ++ tagChecks t)
+    unfolding taggedChecks
+    tag-refusal t = without-five (tagChecks t)

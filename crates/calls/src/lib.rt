@@ -1,0 +1,1 @@
+// Definitions and theorems that table stands on. There is no code here.

@@ -1,0 +1,72 @@
+-- What the code uses of the definitions: the laws of the header, and which check refuses a writer.
+-- Assumes nothing.
+use mathlib.Core.Path.{_≡_, refl, sym, _∙_, subst}
+use mathlib.Core.Bool.{Bool, true, false, cond, not}
+use mathlib.Core.Option.{none}
+use mathlib.Core.List.{List, [], _∷_}
+use Prim.Native.Nat.{ℕ, zero, suc, _/_, _≤_, _<_}
+use native.Mathlib.Omega.{arith}
+use borrow.Author.Tests.{leb-false}
+use lib.Dec.{eqb, leb}
+use lib.ListN.{length, getD, length-append}
+use Rattle.lemmas.specs.Bytes.{AllBytes, bytesOf}
+use Rattle.lemmas.specs.Sums.{total}
+use Rattle.lemmas.proofs.Bools.{or-false-left, or-false-right}
+use Rattle.lemmas.proofs.Bytes.{bytes-length}
+use Rattle.refusals.specs.Checks.{firstMet, Numbered}
+use Rattle.index.specs.declared.Settings.{Settings}
+use Rattle.calls.specs.WrittenForms.{anyFrom}
+use Rattle.file_form.specs.Parsed.{next, refuseIf}
+use Rattle.file_form.specs.Fields.{bit, spelled, Fit, partSize, fieldBytes, takeFields}
+use Rattle.file_form.specs.Header.{sizes, valuesOf, settingsFrom, defaults, mapOf, mapChecks}
+use Rattle.file_form.specs.Writer.{header}
+use Rattle.file_form.specs.Reader.{fitting, readFields}
+use Rattle.file_form.specs.Laws.{HeaderLaws}
+use Rattle.file_form.proofs.Parses.{onward}
+use Rattle.file_form.proofs.Fields.{fit-length, spelled-same, FieldsBack, fields-back}
+use Rattle.file_form.proofs.Headers.{defaults-fit, fitting-map}
+pub use Rattle.calls.proofs.Writers.{table-passed, write-stopped, write-wide, write-short, write-given}
+
+numbered : (m : ℕ) → Numbered (mapChecks m)
+unfolding mapChecks
+numbered m = (omega arith, tt)
+
+few : (ns : List ℕ) (k : ℕ) → anyFrom 9 ns ≡ false → getD ns k 0 ≤ 8
+few [] k e = omega arith
+few (n ∷ ns) zero e = omega (arith, leb-false 9 n (or-false-left (leb 9 n) (anyFrom 9 ns) e))
+few (n ∷ ns) (suc k) e = few ns k (or-false-right (leb 9 n) (anyFrom 9 ns) e)
+
+-- no map makes the fields more than all together
+part-most : (t : Bool) (n : ℕ) → cond t n 0 ≤ n
+part-most true n = omega arith
+part-most false n = omega arith
+
+fields-most : (ns : List ℕ) (m : ℕ) (vs : List ℕ) → length (fieldBytes ns m vs) ≤ total (λ n. n) ns
+fields-most [] m vs = omega arith
+fields-most (n ∷ ns) m [] = omega arith
+fields-most (n ∷ ns) m (v ∷ vs) =
+    omega (arith, length-append (bytesOf (partSize m n) v) (fieldBytes ns (m / 2) vs), bytes-length (partSize m n) v, part-most (bit 0 m) n, fields-most ns (m / 2) vs)
+
+some : (s : Settings) → 0 < length (header s)
+unfolding header
+some s = omega arith
+
+most : (s : Settings) → length (header s) ≤ 16
+unfolding header
+most s = omega (arith, fields-most sizes (mapOf s) (valuesOf s))
+
+-- ── fields that were read ──
+module _ (m : ℕ) (bytes vs rest : List ℕ) (all : AllBytes bytes) where
+  back : takeFields sizes m defaults bytes ≡ next vs rest → FieldsBack sizes m defaults bytes vs rest
+  back e = fields-back sizes m defaults bytes vs rest defaults-fit all e
+
+  fit : takeFields sizes m defaults bytes ≡ next vs rest → Fit sizes (spelled (length sizes) (λ i. getD vs i 0))
+  fit e = subst (Fit sizes) (sym (spelled-same (length sizes) vs (fit-length sizes vs (back e .fit)))) (back e .fit)
+
+  settled : firstMet (mapChecks m) ≡ none → takeFields sizes m defaults bytes ≡ next vs rest
+      → readFields m bytes ≡ refuseIf (not (eqb m (mapOf (settingsFrom vs)))) 12 (next (settingsFrom vs) rest)
+  unfolding readFields
+  settled p e = onward (takeFields sizes m defaults bytes) (fitting m) vs rest e ∙ fitting-map m vs rest p (back e .fit) (back e .default)
+
+pub header-laws : HeaderLaws
+header-laws = record { numbered = numbered; few = λ k. few sizes k refl; some = some; most = most; fit = fit; settled = settled }

@@ -1,0 +1,8 @@
+-- What is proved of the definitions.
+pub mod Marks
+pub mod Parses
+pub mod Fields
+pub mod Headers
+pub mod Buckets
+pub mod RoundTrip
+pub mod Laws

@@ -1,0 +1,125 @@
+-- Round trip, both ways, and what the header alone tells.
+-- Assumes nothing.
+use mathlib.Core.Path.{_≡_, sym, ap, ap₂, _∙_, subst}
+use mathlib.Core.Bool.{false}
+use mathlib.Core.Option.{Option, none}
+use mathlib.Core.List.{List, [], _∷_, _++_, append-nil}
+use Prim.Native.Nat.{ℕ, _*_, _^_, _≤_}
+use native.Mathlib.Omega.{arith}
+use lib.ListN.{length, take, drop}
+use Rattle.lemmas.specs.Bytes.{AllBytes}
+use Rattle.refusals.specs.Checks.{firstMet}
+use Rattle.refusals.specs.Outcomes.{Answer, refused, given, Done, done, Outcome, outcome, keeping}
+use Rattle.refusals.proofs.Laws.{refusal-laws}
+use Rattle.index.specs.Settings.{settingsRefusal}
+use Rattle.index.specs.declared.Settings.{Settings}
+use Rattle.calls.specs.Calls.{tableChecks, Sound}
+use Rattle.calls.specs.WrittenForms.{anyFrom}
+use Rattle.calls.proofs.Laws.{table-check-laws}
+use Rattle.file_form.specs.Writer.{header, body, fileOf, writeFile}
+use Rattle.file_form.specs.Parsed.{Parsed, stop, next, andThen, checked, answerOf}
+use Rattle.file_form.specs.Reader.{readHeader, readBuckets, leftOver, afterBuckets, afterHeader, readAll, readFile, headerAnswer}
+use Rattle.file_form.specs.RoundTrip.{WrittenIsRead, ReadIsWritten, RefusedReadKeeps, HeaderTells}
+use Rattle.calls.proofs.Writers.{write-given, write-accepted}
+use Rattle.file_form.proofs.Parses.{onward, split, same-next, not-refused, not-checked}
+use Rattle.file_form.proofs.Headers.{header-read, header-back}
+use Rattle.file_form.proofs.Buckets.{buckets-read, buckets-back}
+
+-- ── refused ──
+keeps : (bytes c : List ℕ) (n : ℕ) → readFile bytes c .answer ≡ refused n → readFile bytes c .leaves ≡ c
+unfolding readFile
+keeps bytes c n e = refusal-laws .keeps n c (answerOf (readAll bytes c)) e
+
+pub refused-read-keeps : RefusedReadKeeps
+refused-read-keeps = record { keeps = keeps }
+
+-- ── written, then read ──
+back : (s : Settings) (c t : List ℕ) → settingsRefusal s ≡ none → length c ≡ 4 * s .buckets → length t ≡ 4 * s .buckets → anyFrom (2 ^ s .width) c ≡ false
+    → readFile (fileOf s c) t ≡ outcome (given s) c
+unfolding readFile readAll fileOf afterHeader afterBuckets
+back s c t e lc lt small =
+    ap (λ (p : Parsed (Done Settings (List ℕ))). keeping t (answerOf p))
+    (onward (readHeader (header s ++ body c)) (afterHeader t) s (body c) (header-read s e (body c))
+    ∙ ap (λ (o : Option ℕ). checked o (andThen (readBuckets (s .width) (s .buckets) (body c)) (afterBuckets s))) (table-check-laws s t .passes (record { settings = e; size = lt }))
+    ∙ onward (readBuckets (s .width) (s .buckets) (body c)) (afterBuckets s) c [] (buckets-read (s .width) (s .buckets) c lc small))
+
+again : (s : Settings) (c out l t : List ℕ) (n : ℕ) → writeFile s c out ≡ outcome (given n) l → length t ≡ 4 * s .buckets → readFile (take n l) t ≡ outcome (given s) c
+unfolding writeFile
+again s c out l t n e h =
+    let w = write-accepted s c (fileOf s c) out n l e in
+    ap (λ (b : List ℕ). readFile b t) (w .first) ∙ back s c t (w .sound .settings) (w .sound .size) h (w .fits)
+
+pub written-is-read : WrittenIsRead
+written-is-read = record { back = back; again = again }
+
+-- ── the parts of a file that was accepted ──
+-- a reading that gave settings refused nothing
+given-next : (t c : List ℕ) (s : Settings) (p : Parsed (Done Settings (List ℕ))) → keeping t (answerOf p) ≡ outcome (given s) c → (end : List ℕ) × (p ≡ next (done s c) end)
+given-next t c s (stop n) e = absurd (let f : refused n ≡ given s = ap (λ (r : Outcome Settings (List ℕ)). r .answer) e in let z : _≡_ {A = ℕ} 0 1 = cc in omega arith)
+given-next t c s (next d end) e =
+    let f : given (d .says) ≡ given s = ap (λ (r : Outcome Settings (List ℕ)). r .answer) e in
+    let says : d .says ≡ s = cc in
+    (end, ap₂ (λ (x : Settings) (y : List ℕ). next (done x y) end) says (ap (λ (r : Outcome Settings (List ℕ)). r .leaves) e))
+
+-- and left nothing over
+to-end : {A : Type 0} {p : Parsed A} {a : A} (rest : List ℕ) → leftOver rest ≡ false → p ≡ next a rest → p ≡ next a []
+to-end [] e f = f
+to-end (b ∷ l) e f = absurd (let z : _≡_ {A = ℕ} 0 1 = cc e in omega arith)
+
+-- its header, settings and a table that pass, and its buckets
+record Parts (bytes t c : List ℕ) (s : Settings) : Type 0 where
+  pub rest : List ℕ
+  pub first : readHeader bytes ≡ next s rest
+  pub sound : Sound s t
+  pub buckets : readBuckets (s .width) (s .buckets) rest ≡ next c []
+
+parts : (bytes t c : List ℕ) (s : Settings) → readFile bytes t ≡ outcome (given s) c → Parts bytes t c s
+unfolding readFile readAll afterHeader afterBuckets
+parts bytes t c s e =
+    let g = given-next t c s (readAll bytes t) e in
+    let h = split (readHeader bytes) (afterHeader t) (done s c) (g .0) (g .1) in
+    let v : Settings = h .value in
+    let read = readBuckets (v .width) (v .buckets) (h .rest) in
+    let o = not-checked (firstMet (tableChecks v t)) (andThen read (afterBuckets v)) (done s c) (g .0) (h .then) in
+    let b = split read (afterBuckets v) (done s c) (g .0) (o .1) in
+    let n = not-refused (leftOver (b .rest)) 15 (next (done v (b .value)) (b .rest)) (done s c) (g .0) (b .then) in
+    let q = same-next (n .1) in
+    let p : Parts bytes t (b .value) v = record { rest = h .rest; first = h .first; sound = table-check-laws v t .sound (o .0); buckets = to-end (b .rest) (n .0) (b .first) } in
+    subst (λ (x : List ℕ). Parts bytes t x s) (ap (λ (d : Done Settings (List ℕ)). d .leaves) (q .0))
+    (subst (λ (x : Settings). Parts bytes t (b .value) x) (ap (λ (d : Done Settings (List ℕ)). d .says) (q .0)) p)
+
+-- ── read, then written ──
+-- what an accepted file consists of
+record Accepted (bytes c : List ℕ) (s : Settings) : Type 0 where
+  pub sound : Sound s c
+  pub small : anyFrom (2 ^ s .width) c ≡ false
+  pub same : fileOf s c ≡ bytes
+
+accepted : (bytes t c : List ℕ) (s : Settings) → AllBytes bytes → readFile bytes t ≡ outcome (given s) c → Accepted bytes c s
+unfolding fileOf
+accepted bytes t c s all e =
+    let p = parts bytes t c s e in
+    let k = header-back bytes s (p .rest) all (p .first) in
+    let m = buckets-back (s .width) (s .buckets) (p .rest) c [] (k .left) (p .buckets) in
+    record { sound = record { settings = p .sound .settings; size = m .long }; small = m .small; same = ap (λ (x : List ℕ). header s ++ x) (sym (append-nil (body c)) ∙ m .same) ∙ k .same }
+
+-- the writer refuses nothing of what was accepted
+makes : (bytes t c out : List ℕ) (s : Settings) → AllBytes bytes → readFile bytes t ≡ outcome (given s) c → length bytes ≤ length out
+    → writeFile s c out ≡ outcome (given (length bytes)) (bytes ++ drop (length bytes) out)
+unfolding writeFile
+makes bytes t c out s all e h =
+    let a = accepted bytes t c s all e in
+    rw (a .same) (sym (write-given s c bytes out (a .sound) (a .small) h))
+
+pub read-is-written : ReadIsWritten
+read-is-written = record { only = λ bytes t c s all e. accepted bytes t c s all e .same; makes = makes }
+
+-- ── what the header alone tells ──
+tells : (bytes c : List ℕ) (s : Settings) → readFile bytes c .answer ≡ given s → (headerAnswer bytes ≡ given s) × (length c ≡ 4 * s .buckets)
+unfolding headerAnswer
+tells bytes c s e =
+    let p = parts bytes c (readFile bytes c .leaves) s (ap (λ (a : Answer Settings). outcome a (readFile bytes c .leaves)) e) in
+    (ap answerOf (p .first), p .sound .size)
+
+pub header-tells : HeaderTells
+header-tells = record { tells = tells }

@@ -1,0 +1,1 @@
+// Definitions and theorems that holdfile stands on. There is no code here.

@@ -1,0 +1,90 @@
+-- Contracts of the functions inside: the writer's and the reader's definitions, cut where the code is cut.
+-- Assumes nothing.
+use mathlib.Core.Path.{_≡_}
+use mathlib.Core.Bool.{Bool, true, false, cond}
+use mathlib.Core.List.{List, []}
+use Prim.Native.Nat.{ℕ, _+_, _*_, _^_, _≤_}
+use lib.Dec.{leb}
+use lib.ListN.{length, take, drop, getD, set}
+use lib.Seq.{sets}
+use Rattle.index.specs.declared.Settings.{Settings}
+use Rattle.calls.specs.WrittenForms.{anyFrom}
+use Rattle.file_form.specs.Writer.{bucketBytes, body}
+use Rattle.file_form.specs.Parsed.{Parsed, stop, next}
+use Rattle.file_form.specs.Reader.{readCell, readBucket}
+use Rattle.holdfile.specs.declared.Size.{Size}
+use Rattle.holdfile.specs.declared.Field.{Field}
+use Rattle.holdfile.specs.declared.Number.{Number}
+use Rattle.holdfile.specs.declared.HeaderRead.{HeaderRead}
+use Rattle.holdfile.specs.declared.Pass.{Pass}
+
+-- ── writing ──
+-- these bytes were stored from a place on, and nothing else was
+pub record Put (before after : List ℕ) (at : ℕ) (bytes : List ℕ) (end : ℕ) : Type 0 where
+  pub output : after ≡ sets before at bytes
+  pub place : end ≡ at + length bytes
+
+-- the bytes of the bucket in the four cells from i on
+abbrev pub bucketBytesAt : List ℕ → ℕ → List ℕ
+bucketBytesAt c i = bucketBytes (getD c i 0) (getD c (i + 1) 0) (getD c (i + 2) 0) (getD c (i + 3) 0)
+
+abbrev pub largerOf : ℕ → ℕ → ℕ
+largerOf a b = cond (leb a b) b a
+
+-- the first pass over the cells: the bytes of the buckets, where no cell is too wide
+abbrev pub Sized : ℕ → List ℕ → Size → Type 0
+Sized w c (Size.Bytes n) = (anyFrom (2 ^ w) c ≡ false) × (n ≡ length (body c))
+Sized w c Size.TooWide = anyFrom (2 ^ w) c ≡ true
+
+-- ── reading: a place in the bytes l stands for the bytes from there on ──
+abbrev pub fieldIs : List ℕ → Field → Parsed ℕ
+fieldIs l (Field.Value v at) = next v (drop at l)
+fieldIs l Field.Short = stop 11
+
+abbrev pub numberIs : List ℕ → Number → Parsed ℕ
+numberIs l (Number.Value v at) = next v (drop at l)
+numberIs l Number.Short = stop 11
+
+abbrev pub headerIs : List ℕ → HeaderRead → Parsed Settings
+headerIs l (HeaderRead.Fields s at) = next s (drop at l)
+headerIs l (HeaderRead.Refused n) = stop n
+
+abbrev pub passIs : List ℕ → Pass → Parsed (Unit {0})
+passIs l (Pass.End at) = next tt (drop at l)
+passIs l (Pass.Refused n) = stop n
+
+-- two bytes from a place on, as a number
+abbrev pub pairFrom : List ℕ → ℕ → ℕ
+pairFrom l at = getD l at 0 + 256 * getD l (at + 1) 0
+
+-- a cell, marked or not
+abbrev pub cellFrom : List ℕ → ℕ → Bool → ℕ
+cellFrom l at stands = cond stands (pairFrom l at) 0
+
+-- a fingerprint of the width stands at a place, where that is said
+abbrev pub PrintAt : ℕ → List ℕ → ℕ → Bool → Type 0
+PrintAt w l at true = readCell w true (drop at l) ≡ next (pairFrom l at) (drop (at + 2) l)
+PrintAt w l at false = Unit {0}
+
+-- where a reading ends, without what it gives; whether it gives anything; and what
+abbrev pub endOf : Parsed (List ℕ) → Parsed (Unit {0})
+endOf (stop n) = stop n
+endOf (next c end) = next tt end
+
+abbrev pub GivesCells : Parsed (List ℕ) → Type 0
+GivesCells (stop n) = ⊥
+GivesCells (next c end) = Unit {0}
+
+abbrev pub cellsRead : Parsed (List ℕ) → List ℕ
+cellsRead (stop n) = []
+cellsRead (next c end) = c
+
+-- a bucket of four fingerprints stands at a place, where that is said
+abbrev pub FullAt : ℕ → List ℕ → ℕ → Bool → Type 0
+FullAt w l at true = (at + 9 ≤ length l) × (endOf (readBucket w (drop at l)) ≡ next tt (drop (at + 9) l))
+FullAt w l at false = Unit {0}
+
+-- a cell was read, as one that has passed, and stored as cell i
+pub record CellStored (l before after : List ℕ) (at : ℕ) (stands : Bool) (i end : ℕ) : Type 0 where
+  pub output : after ≡ set before i (cellFrom l at stands)
+  pub place : end ≡ at + cond stands 2 0

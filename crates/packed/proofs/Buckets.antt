@@ -1,0 +1,96 @@
+-- The table's buckets as the writer takes them: four cells, sorted, and whether a cell does not fit the width.
+-- Assumes nothing.
+use mathlib.Core.Path.{_≡_, refl, sym, ap}
+use mathlib.Core.Bool.{Bool, true, false, not, _||_, or-true}
+use mathlib.Core.List.{List, [], _∷_}
+use Prim.Native.Nat.{ℕ, zero, suc, _+_, _/_, _^_, _≤_, _<_, min, max}
+use native.Mathlib.Decide.{decLe}
+use native.Mathlib.Nat.{div-eq-of-lt, le-div-iff-mul-le, mul-le-mul-right}
+use native.Mathlib.Numerals.{add-one}
+use native.Mathlib.Omega.{arith}
+use borrow.Author.Tests.{le-leb, lt-leb, leb-false, ne-eqb}
+use lib.Dec.{eqb, leb}
+use lib.ListN.{length, getD, drop}
+use lib.Pow.{pow-pos, pow-mono}
+use lib.Seq.{drop-cons}
+use Rattle.lemmas.proofs.Bools.{or-false-left, or-false-right}
+use Rattle.lemmas.proofs.Digits.{quotient-below}
+use Rattle.rows.specs.Rows.{Ascends}
+use Rattle.calls.specs.WrittenForms.{anyFrom}
+use Rattle.packed_form.specs.Writer.{sort4, sortBuckets, codeOf, streamOf}
+use Rattle.packed_form.proofs.Codes.{code-below}
+use Rattle.packed_form.proofs.Sort.{sort-ascends, sort-below}
+use Rattle.packed.specs.Internal.{BucketAsked, BucketAt}
+
+-- ── four cells ──
+any-at : (n : ℕ) (l : List ℕ) (i : ℕ) → anyFrom n l ≡ false → i < length l → getD l i 0 < n
+any-at n [] i e h = absurd (omega arith)
+any-at n (v ∷ l) zero e h = leb-false n v (or-false-left (leb n v) (anyFrom n l) e)
+any-at n (v ∷ l) (suc i) e h = any-at n l i (or-false-right (leb n v) (anyFrom n l) e) (omega arith)
+
+drop-four : (l : List ℕ) (i : ℕ) → i + 4 ≤ length l → drop i l ≡ getD l i 0 ∷ getD l (i + 1) 0 ∷ getD l (i + 2) 0 ∷ getD l (i + 3) 0 ∷ drop (i + 4) l
+drop-four l i h =
+    let e1 : i + 1 ≡ suc i = omega arith in
+    let e2 : i + 2 ≡ suc (suc i) = omega arith in
+    let e3 : i + 3 ≡ suc (suc (suc i)) = omega arith in
+    let e4 : i + 4 ≡ suc (suc (suc (suc i))) = omega arith in
+    rw (
+      e1,
+      e2,
+      e3,
+      e4,
+      drop-cons l i 0 (omega arith),
+      drop-cons l (suc i) 0 (omega arith),
+      drop-cons l (suc (suc i)) 0 (omega arith),
+      drop-cons l (suc (suc (suc i))) 0 (omega arith),
+    ) refl
+
+pub sort-made : (a b c d : ℕ) {low high low2 high2 inner outer r0 r1 r2 r3 : ℕ}
+    → low ≡ min a b → high ≡ max a b → low2 ≡ min c d → high2 ≡ max c d → inner ≡ max low low2 → outer ≡ min high high2
+    → r0 ≡ min low low2 → r1 ≡ min inner outer → r2 ≡ max inner outer → r3 ≡ max high high2
+    → r0 ∷ r1 ∷ r2 ∷ r3 ∷ [] ≡ sort4 a b c d
+sort-made a b c d e1 e2 e3 e4 e5 e6 e7 e8 e9 e10 = rw (e7, e8, e9, e10, e5, e6, e1, e2, e3, e4) refl
+
+-- the bucket that starts at cell i, as f once it is sorted
+module _ {counts : List ℕ} {w : ℕ} {t : List ℕ} {i : ℕ} (A : BucketAsked counts w t i) {f : List ℕ}
+    (is : f ≡ sort4 (getD t i 0) (getD t (i + 1) 0) (getD t (i + 2) 0) (getD t (i + 3) 0)) where
+  cell-fits : (j : ℕ) → j < i + 4 → getD t j 0 < 2 ^ w
+  cell-fits j h = any-at (2 ^ w) t j (A .fits) (omega (arith, A .inside))
+
+  pub sorted-asked : Ascends (getD f 0 0) (getD f 1 0) (getD f 2 0) (getD f 3 0) × (getD f 3 0 < 2 ^ w)
+  sorted-asked = rw is (
+    sort-ascends (getD t i 0) (getD t (i + 1) 0) (getD t (i + 2) 0) (getD t (i + 3) 0),
+    sort-below (getD t i 0) (getD t (i + 1) 0) (getD t (i + 2) 0) (getD t (i + 3) 0) (2 ^ w)
+        (cell-fits i (omega arith)) (cell-fits (i + 1) (omega arith)) (cell-fits (i + 2) (omega arith)) (cell-fits (i + 3) (omega arith)),
+  )
+
+  pub bucket-made : {code : ℕ} → code ≡ codeOf w (getD f 0 0) (getD f 1 0) (getD f 2 0) (getD f 3 0) → BucketAt w t i code
+  unfolding streamOf sortBuckets
+  bucket-made z = record {
+    below = rw z (code-below w (A .width .low) (getD f 0 0) (getD f 1 0) (getD f 2 0) (getD f 3 0) (sorted-asked .0) (sorted-asked .1));
+    first = rw (drop-four t i (A .inside), z, is) refl;
+  }
+
+-- ── a cell that does not fit: what stands above the width, added up ──
+abbrev pub some-over : ℕ → Bool
+some-over over = not (eqb over 0)
+
+pub over-few : (w v : ℕ) → 4 ≤ w → v < 65536 → v / 2 ^ w < 4096
+over-few w v h k = quotient-below (2 ^ w) 4096 v (omega (arith, mul-le-mul-right 4096 (pow-mono {i = 4} {j = w} h))) (pow-pos w)
+
+pub over-next : (w : ℕ) (l : List ℕ) (i over : ℕ) → i < length l
+    → (some-over (over + getD l i 0 / 2 ^ w) || anyFrom (2 ^ w) (drop (i + 1) l)) ≡ (some-over over || anyFrom (2 ^ w) (drop i l))
+over-next w l i over h =
+    let v : ℕ = getD l i 0 in
+    elim (decLe (2 ^ w) v) [
+      | yes k ↦ (
+          let one : 1 ≤ v / 2 ^ w = le-div-iff-mul-le (pow-pos w) .1 (omega arith) in
+          let f : some-over (over + v / 2 ^ w) ≡ true = ap not (ne-eqb (over + v / 2 ^ w) 0 (omega arith)) in
+          rw (add-one, drop-cons l i 0 h, le-leb (2 ^ w) v k, f) (sym (or-true (some-over over)))
+          )
+      | no k ↦ (
+          let y : v / 2 ^ w ≡ 0 = div-eq-of-lt (omega arith) in
+          let z : over + v / 2 ^ w ≡ over = omega arith in
+          rw (add-one, drop-cons l i 0 h, lt-leb (2 ^ w) v (omega arith), z) refl
+          )
+    ]

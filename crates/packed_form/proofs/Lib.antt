@@ -1,0 +1,8 @@
+-- The packed form's proofs, by what they speak of.
+pub mod Codes
+pub mod Sort
+pub mod Filled
+pub mod Streams
+pub mod Keeps
+pub mod Refusals
+pub mod RoundTrip

@@ -1,0 +1,1 @@
+// Definitions and theorems that packed stands on. There is no code here.
