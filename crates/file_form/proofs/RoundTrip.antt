@@ -10,6 +10,7 @@ use lib.ListN.{length, take, drop}
 use Rattle.lemmas.specs.Bytes.{AllBytes}
 use Rattle.refusals.specs.Checks.{firstMet}
 use Rattle.refusals.specs.Outcomes.{Answer, refused, given, Done, done, Outcome, outcome, keeping}
+use Rattle.refusals.proofs.Cursor.{goes-on, by-check, by-none}
 use Rattle.refusals.proofs.Laws.{refusal-laws}
 use Rattle.index.specs.Settings.{settingsRefusal}
 use Rattle.index.specs.declared.Settings.{Settings}
@@ -18,7 +19,7 @@ use Rattle.calls.specs.WrittenForms.{anyFrom}
 use Rattle.calls.proofs.Laws.{table-check-laws}
 use Rattle.file_form.specs.Writer.{header, body, fileOf, writeFile}
 use Rattle.file_form.specs.Parsed.{Parsed, stop, next, andThen, checked, answerOf}
-use Rattle.file_form.specs.Reader.{readHeader, readBuckets, leftOver, afterBuckets, afterHeader, readAll, readFile, headerAnswer}
+use Rattle.file_form.specs.Reader.{readHeader, readBuckets, leftOver, afterBuckets, afterHeader, readAll, readFile, named, headerAnswer}
 use Rattle.file_form.specs.RoundTrip.{WrittenIsRead, ReadIsWritten, RefusedReadKeeps, HeaderTells}
 use Rattle.calls.proofs.Writers.{write-given, write-accepted}
 use Rattle.file_form.proofs.Parses.{onward, split, same-next, not-refused, not-checked}
@@ -115,11 +116,32 @@ pub read-is-written : ReadIsWritten
 read-is-written = record { only = λ bytes t c s all e. accepted bytes t c s all e .same; makes = makes }
 
 -- ── what the header alone tells ──
+-- settings that were named have passed
+named-pass : (p : Parsed Settings) (s : Settings) → named p ≡ given s → settingsRefusal s ≡ none
+named-pass (stop n) s e = absurd (let z : _≡_ {A = ℕ} 0 1 = cc in omega arith)
+named-pass (next v rest) s e = let r = by-none (settingsRefusal v) (sym e) in ap (λ (x : Settings). settingsRefusal x) (r .1) ∙ r .0
+
 tells : (bytes c : List ℕ) (s : Settings) → readFile bytes c .answer ≡ given s → (headerAnswer bytes ≡ given s) × (length c ≡ 4 * s .buckets)
 unfolding headerAnswer
 tells bytes c s e =
     let p = parts bytes c (readFile bytes c .leaves) s (ap (λ (a : Answer Settings). outcome a (readFile bytes c .leaves)) e) in
-    (ap answerOf (p .first), p .sound .size)
+    (ap named (p .first) ∙ sym (goes-on (given s) (p .sound .settings)), p .sound .size)
+
+passes : (bytes : List ℕ) (s : Settings) → headerAnswer bytes ≡ given s → settingsRefusal s ≡ none
+unfolding headerAnswer
+passes bytes s e = named-pass (readHeader bytes) s e
+
+-- where the header is refused, so is what is read from there on
+stopped : (c : List ℕ) (p : Parsed Settings) (n : ℕ) → named p ≡ refused n → answerOf (andThen p (afterHeader c)) ≡ refused n
+unfolding afterHeader
+stopped c (stop k) n e = let q : k ≡ n = cc in ap refused q
+stopped c (next v rest) n e =
+    ap (λ (o : Option ℕ). answerOf (checked o (andThen (readBuckets (v .width) (v .buckets) rest) (afterBuckets v))))
+    (table-check-laws v c .by-settings n (by-check (settingsRefusal v) v (sym e)))
+
+refuses : (bytes c : List ℕ) (n : ℕ) → headerAnswer bytes ≡ refused n → readFile bytes c .answer ≡ refused n
+unfolding headerAnswer readFile readAll
+refuses bytes c n e = ap (λ (a : Answer (Done Settings (List ℕ))). keeping c a .answer) (stopped c (readHeader bytes) n e)
 
 pub header-tells : HeaderTells
-header-tells = record { tells = tells }
+header-tells = record { tells = tells; passes = passes; refuses = refuses }

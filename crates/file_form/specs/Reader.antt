@@ -5,7 +5,8 @@ use mathlib.Core.List.{List, [], _∷_, _++_}
 use Prim.Native.Nat.{ℕ, zero, suc, _+_, _*_, _^_}
 use lib.Dec.{eqb, leb}
 use Rattle.refusals.specs.Checks.{firstMet}
-use Rattle.refusals.specs.Outcomes.{Answer, Done, done, Outcome, keeping}
+use Rattle.refusals.specs.Outcomes.{Answer, refused, given, unless, Done, done, Outcome, keeping}
+use Rattle.index.specs.Settings.{settingsRefusal}
 use Rattle.index.specs.declared.Settings.{Settings}
 use Rattle.calls.specs.Calls.{tableChecks}
 use Rattle.file_form.specs.Bytes.{bit0, bit1, bit2, bit3}
@@ -83,6 +84,11 @@ unfoldable pub readFile : List ℕ → List ℕ → Outcome Settings (List ℕ)
 readFile bytes c = keeping c (answerOf (readAll bytes c))
 
 -- ── the header alone ──
+-- the settings that were read of it, where they pass their checks
+abbrev pub named : Parsed Settings → Answer Settings
+named (stop n) = refused n
+named (next s rest) = unless (settingsRefusal s) (given s)
+
 -- the settings that it names, whatever stands behind it
 unfoldable pub headerAnswer : List ℕ → Answer Settings
-headerAnswer bytes = answerOf (readHeader bytes)
+headerAnswer bytes = named (readHeader bytes)

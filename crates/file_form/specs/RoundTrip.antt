@@ -34,6 +34,11 @@ pub record ReadIsWritten : Type 0 where
 pub record RefusedReadKeeps : Type 0 where
   pub keeps : (bytes c : List ℕ) (n : ℕ) → readFile bytes c .answer ≡ refused n → readFile bytes c .leaves ≡ c
 
--- whatever bytes the reader accepts have the settings that their header names, and went into a table with four cells for each of so many buckets
+-- what the header alone tells of a reading
 pub record HeaderTells : Type 0 where
+  -- whatever bytes the reader accepts have the settings that their header names, and went into a table with four cells for each of so many buckets
   pub tells : (bytes c : List ℕ) (s : Settings) → readFile bytes c .answer ≡ given s → (headerAnswer bytes ≡ given s) × (length c ≡ 4 * s .buckets)
+  -- the settings that it names have passed their checks
+  pub passes : (bytes : List ℕ) (s : Settings) → headerAnswer bytes ≡ given s → settingsRefusal s ≡ none
+  -- a header that is refused refuses the reading, with the same number, whatever table is lent
+  pub refuses : (bytes c : List ℕ) (n : ℕ) → headerAnswer bytes ≡ refused n → readFile bytes c .answer ≡ refused n

@@ -7,7 +7,8 @@ ghost use lib.Dec.{eqb, leb};
 ghost use lib.ListN.{length, drop};
 ghost use lib.Seq.{sets};
 ghost use Rattle.file_form.specs.Bytes.{pair, nibble as nibbleOf, one as oneOf, where?};
-ghost use Rattle.refusals.specs.Outcomes.{outcome, keeping};
+ghost use Rattle.refusals.specs.Outcomes.{given, unless, outcome, keeping};
+ghost use Rattle.index.specs.Settings.{settingsRefusal};
 ghost use Rattle.file_form.specs.Parsed.{next, answerOf};
 ghost use Rattle.file_form.specs.Fields.{field};
 ghost use Rattle.file_form.specs.Writer.{body, writeFile};
@@ -428,14 +429,25 @@ fn read_body(s: Settings, bytes: &[u8], at: usize, table: &mut [u16]) -> ReadAns
     }
 }
 
-// The settings that a file's header names, so that a caller can lend as many cells as the reader asks for. It looks at nothing behind
-// the header, and does not check the settings.
+// Settings, where they pass their checks.
+fn passing(s: Settings) -> ReadAnswer
+    ensures { λ r. ⌜ readIs r ≡ unless (settingsRefusal s) (given s) ⌝ }
+{
+    let bad = s.refusal();
+    if bad != 0 {
+        return ReadAnswer::Refused(bad);
+    }
+    ReadAnswer::Read(s)
+}
+
+// The settings that a file's header names, where they pass, so that a caller can lend as many cells as the reader asks for. It looks at
+// nothing behind the header, and whatever it refuses the reader refuses with the same number.
 pub fn settings_of(bytes: &[u8]) -> ReadAnswer
     ensures { λ r. ⌜ readIs r ≡ headerAnswer (now (bytes .entry)) ⌝ }
 {
     match header::header_at(bytes) {
-        HeaderRead::Refused(n) => ReadAnswer::Refused(n),
-        HeaderRead::Fields(s, _) => ReadAnswer::Read(s),
+        HeaderRead::Refused(k) => ReadAnswer::Refused(k),
+        HeaderRead::Fields(s, _) => passing(s),
     }
 }
 

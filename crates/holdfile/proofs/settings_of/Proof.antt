@@ -3,20 +3,20 @@ use mathlib.Core.Path.{sym, ap, _∙_}
 use Rattle.holdfile.proofs.settings_of.Statement.{statement}
 use Rattle.holdfile.proofs.settings_of.Tie as tie
 use Rattle.holdfile.specs.Internal.{headerIs}
-use Rattle.file_form.specs.Parsed.{answerOf}
-use Rattle.file_form.specs.Reader.{headerAnswer}
+use Rattle.file_form.specs.Reader.{named, headerAnswer}
 
 returns : tie.Need-returns
 unfolding headerAnswer
 returns c =
     let l = c .before .before .before .before .before .args .bytes .now in
-    ap answerOf (ap (headerIs l) (sym (c .before .n .given .1)) ∙ c .before .before .before .header-at .ensures)
+    ap named (ap (headerIs l) (sym (c .before .k .given .1)) ∙ c .before .before .before .header-at .ensures)
 
 returns-2 : tie.Need-returns-2
 unfolding headerAnswer
 returns-2 c =
-    let l = c .before .before .before .before .before .args .bytes .now in
-    ap answerOf (ap (headerIs l) (sym (c .before .s .given .1)) ∙ c .before .before .before .header-at .ensures)
+    let k = c .before .before in
+    let l = k .before .before .before .before .args .bytes .now in
+    c .passing .ensures ∙ ap named (ap (headerIs l) (sym (k .s .given .1)) ∙ k .before .before .header-at .ensures)
 
 pub settings-of-spec : {M : Type 1} → statement M
-settings-of-spec = tie.close (tie.spec (λ c κs. search needs) (λ c. search needs) (λ c. search needs) returns returns-2)
+settings-of-spec = tie.close (tie.spec (λ c κs. search needs) (λ c. search needs) (λ c. search needs) (λ c κs. search needs) returns returns-2)
