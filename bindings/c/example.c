@@ -12,9 +12,9 @@
 
 #include "holdlist.h"
 
-/* the ring rule, fingerprints of 12 bits, ten buckets */
+/* the ring rule, fingerprints of 12 bits, ten buckets, no mask */
 #define BUCKETS 10
-#define SETTINGS 1, 12, BUCKETS, 0
+static const holdlist_settings settings = {1, 12, BUCKETS, 0};
 
 /* a buffer as its two arguments */
 #define LENT(t) (t), sizeof(t) / sizeof((t)[0])
@@ -29,17 +29,17 @@ static const uint8_t *bytes_of(const char *tag) { return (const uint8_t *)tag; }
 
 static int64_t hold(const char *tag)
 {
-    return holdlist_hold(SETTINGS, LENT(table), LENT(scratch), bytes_of(tag), strlen(tag));
+    return holdlist_hold(&settings, LENT(table), LENT(scratch), bytes_of(tag), strlen(tag));
 }
 
 static int64_t lookup(const uint16_t *cells, const char *tag)
 {
-    return holdlist_lookup(SETTINGS, cells, HOLDLIST_CELLS(BUCKETS), bytes_of(tag), strlen(tag));
+    return holdlist_lookup(&settings, cells, HOLDLIST_CELLS(BUCKETS), bytes_of(tag), strlen(tag));
 }
 
 static int64_t release(const char *tag)
 {
-    return holdlist_release(SETTINGS, LENT(table), bytes_of(tag), strlen(tag));
+    return holdlist_release(&settings, LENT(table), bytes_of(tag), strlen(tag));
 }
 
 int main(void)
@@ -47,11 +47,12 @@ int main(void)
     char tag[16];
     int held = 0, moves = 0, found = 0;
     int64_t answer, size;
-    uint32_t settings[4];
+    holdlist_settings odd = {1, 12, 11, 0}, named;
 
-    printf("settings: %" PRId64 "\n", holdlist_settings_check(SETTINGS));
-    printf("eleven buckets under the ring rule: %" PRId64 "\n", holdlist_settings_check(1, 12, 11, 0));
-    printf("clear: %" PRId64 "\n", holdlist_clear(SETTINGS, LENT(table)));
+    printf("settings: %" PRId64 "\n", holdlist_settings_check(&settings));
+    answer = holdlist_settings_check(&odd);
+    printf("eleven buckets under the ring rule: %" PRId64 ", %s\n", answer, holdlist_refusal_text(answer));
+    printf("clear: %" PRId64 "\n", holdlist_clear(&settings, LENT(table)));
 
     /* as many tags as the list takes */
     for (;;) {
@@ -62,28 +63,33 @@ int main(void)
         held++;
         moves += (int)answer;
     }
-    printf("held %d tags with %d moves, then %" PRId64 "\n", held, moves, answer);
+    printf("held %d tags with %d moves, then %" PRId64 ": %s\n", held, moves, answer, holdlist_refusal_text(answer));
 
     printf("look up ewe 3: %" PRId64 "\n", lookup(table, "ewe 3"));
     printf("release ewe 3: %" PRId64 "\n", release("ewe 3"));
     printf("look up ewe 3: %" PRId64 "\n", lookup(table, "ewe 3"));
     printf("look up the empty tag: %" PRId64 "\n", lookup(table, ""));
 
-    /* saved, and read into another table */
-    size = holdlist_file_write(SETTINGS, LENT(table), file, sizeof file);
+    /* saved, and read into another table, of the size that the file names */
+    size = holdlist_file_write(&settings, LENT(table), file, sizeof file);
     printf("saved: %" PRId64 " bytes\n", size);
-    answer = holdlist_file_read(file, (size_t)size, LENT(copy), settings);
-    printf("read back: %" PRId64 ", rule %" PRIu32 ", width %" PRIu32 ", buckets %" PRIu32 ", mask %" PRIu32 "\n",
-           answer, settings[0], settings[1], settings[2], settings[3]);
-    printf("same cells: %s\n", memcmp(table, copy, sizeof table) == 0 ? "yes" : "no");
-    printf("one byte short: %" PRId64 "\n",
-           holdlist_file_read(file, (size_t)size - 1, LENT(copy), settings));
+    answer = holdlist_file_settings(file, (size_t)size, &named);
+    printf("named: %" PRId64 ", rule %" PRIu32 ", width %" PRIu32 ", buckets %" PRIu32 ", mask %" PRIu32 "\n",
+           answer, named.rule, named.width, named.buckets, named.mask);
+    if (answer < 0 || named.buckets > BUCKETS)
+        return 1; /* there is no table of that size here */
+    answer = holdlist_file_read(file, (size_t)size, copy, HOLDLIST_CELLS(named.buckets), &named);
+    printf("read back: %" PRId64 ", same settings: %s, same cells: %s\n", answer,
+           memcmp(&named, &settings, sizeof named) == 0 ? "yes" : "no",
+           memcmp(table, copy, sizeof table) == 0 ? "yes" : "no");
+    answer = holdlist_file_read(file, (size_t)size - 1, LENT(copy), &named);
+    printf("one byte short: %" PRId64 ", %s\n", answer, holdlist_refusal_text(answer));
 
     /* packed, and read into another table: the same entries */
-    size = holdlist_packed_write(SETTINGS, LENT(table), packed, sizeof packed);
+    size = holdlist_packed_write(&settings, LENT(table), packed, sizeof packed);
     printf("packed: %" PRId64 " bytes\n", size);
     printf("unpacked: %" PRId64 " entries\n",
-           holdlist_packed_read(SETTINGS, packed, (size_t)size, LENT(copy)));
+           holdlist_packed_read(&settings, packed, (size_t)size, LENT(copy)));
     for (int i = 0; i < held; i++) {
         sprintf(tag, "ewe %d", i);
         found += (int)lookup(copy, tag);

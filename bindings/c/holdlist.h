@@ -9,20 +9,24 @@
  * the names HOLDLIST_REFUSED_.. below, so that -7 means 7. A refused call has written nothing to the table, to out or
  * to settings, and the contents of scratch stay as they were unless the number is 9.
  *
- * SETTINGS. The first four arguments of every call but holdlist_file_read:
- *   rule     0 plain, 1 ring, 2 masked
- *   width    bits of a fingerprint, 4 to 16
- *   buckets  1 to 65536: a power of two under rules 0 and 2, even under rule 1
- *   mask     below buckets under rule 2, and 0 under the others
- * They are checked first, in this order, and give 1, 2, 3 or 4. A table is used with the settings that it was cleared
- * or read with: nothing in it says which those were.
+ * SETTINGS. A pointer to a holdlist_settings, below, comes first in every call but the two that read a hold file, which
+ * write one. Settings are checked before anything else, in the order of their members, and give 1, 2, 3 or 4. A table
+ * is used with the settings that it was cleared or read with: nothing in it says which those were. A later version may
+ * append members, so set them all: an initialiser, as { 1, 12, 1000, 0 }, makes those that it leaves out 0.
  *
  * BUFFERS. A buffer is a pointer and a count of elements. It holds at least that many elements and is aligned as its
  * element type asks; a null pointer with count 0 is an empty buffer. A buffer that a call writes overlaps none of its
- * other buffers. out[4] and settings[4] are four elements, and never null.
+ * other buffers. settings and out[4] are never null, and settings that a call writes are a buffer too.
  *   table    4 * buckets cells; bucket b is cells 4b to 4b + 3, and 0 is an empty cell
  *   scratch  2 * buckets numbers or more; what they hold before does not matter
  *   tag      1 to 64 bytes
+ *
+ * UNINITIALISED SCRATCH. Nobody has to set scratch, and holdlist_hold reads words of it that nobody wrote. A checker of
+ * uninitialised memory, as valgrind or MSan, sees these reads. They are harmless: scratch is a sparse set. Its first
+ * half is the queue of the buckets that a search has reached, and its second half has a word for each bucket that says
+ * where in the queue it stands. Such a word is believed only if it names an entry that this call has queued, and that
+ * entry names the bucket back; a stale word, whatever it is, fails one of the two. So what scratch held changes neither
+ * the answer nor a cell, which is proved. To have such a checker silent, set scratch once, to anything.
  *
  * STACK. holdlist_packed_read takes about 8 KB, every other call less than 512 bytes.
  */
@@ -35,6 +39,28 @@
 #ifdef __cplusplus
 extern "C" {
 #endif
+
+/* The version, that of the whole repository (its file VERSION). */
+#define HOLDLIST_VERSION_MAJOR 0
+#define HOLDLIST_VERSION_MINOR 2
+#define HOLDLIST_VERSION_PATCH 0
+#define HOLDLIST_VERSION "0.2.0"
+
+/* Settings, any numbers of which can be handed in. */
+typedef struct {
+    uint32_t rule;    /* 0 plain, 1 ring, 2 masked */
+    uint32_t width;   /* bits of a fingerprint, 4 to 16 */
+    uint32_t buckets; /* 1 to 65536: a power of two under rules 0 and 2, even under rule 1 */
+    uint32_t mask;    /* below buckets under rule 2, and 0 under the others */
+} holdlist_settings;
+
+/* The library takes them as four 32-bit numbers in a row. A compiler that lays them out otherwise stops here. */
+typedef char holdlist_settings_are_four_numbers
+    [sizeof(holdlist_settings) == 4 * sizeof(uint32_t) && offsetof(holdlist_settings, rule) == 0 &&
+             offsetof(holdlist_settings, width) == 4 && offsetof(holdlist_settings, buckets) == 8 &&
+             offsetof(holdlist_settings, mask) == 12
+         ? 1
+         : -1];
 
 /* What a refusal's number means. There is no 10. */
 enum {
@@ -59,6 +85,57 @@ enum {
     HOLDLIST_REFUSED_FILLING = 20         /* a filling bit is set */
 };
 
+/*
+ * What a refusal's number means. It takes the number or minus the number, so that the result of a call that was refused
+ * can be handed on as it is. Of any other number it says that there is no such refusal.
+ */
+static inline const char *holdlist_refusal_text(int64_t refusal)
+{
+    /* minus a positive number is there in any case, and minus the least is not */
+    switch (refusal > 0 ? -refusal : refusal) {
+    case -HOLDLIST_REFUSED_RULE:
+        return "the rule is above 2";
+    case -HOLDLIST_REFUSED_WIDTH:
+        return "the width is outside 4 to 16";
+    case -HOLDLIST_REFUSED_BUCKETS:
+        return "the bucket count is 0 or above 65536, no power of two under rule 0 or 2, or odd under rule 1";
+    case -HOLDLIST_REFUSED_MASK:
+        return "the mask is not below the bucket count under rule 2, or not 0 under rule 0 or 1";
+    case -HOLDLIST_REFUSED_TABLE:
+        return "the table does not have four cells for each bucket";
+    case -HOLDLIST_REFUSED_SCRATCH:
+        return "scratch has fewer than two numbers for each bucket";
+    case -HOLDLIST_REFUSED_TAG:
+        return "the tag has no byte or more than 64";
+    case -HOLDLIST_REFUSED_BUCKET:
+        return "there is no bucket of this number";
+    case -HOLDLIST_REFUSED_FULL:
+        return "the list has no room for the tag, however its entries are moved";
+    case -HOLDLIST_REFUSED_SHORT:
+        return "the bytes end early";
+    case -HOLDLIST_REFUSED_MAP:
+        return "the map has a bit above its fields, a field has its default, or the mask does not fit the rule";
+    case -HOLDLIST_REFUSED_BUCKET_BYTE:
+        return "the byte of a bucket is above 15";
+    case -HOLDLIST_REFUSED_FINGERPRINT:
+        return "a fingerprint is 0 or does not fit the width";
+    case -HOLDLIST_REFUSED_LEFT_OVER:
+        return "bytes are left over";
+    case -HOLDLIST_REFUSED_OUTPUT:
+        return "the output is too short";
+    case -HOLDLIST_REFUSED_CELL:
+        return "a cell does not fit the width";
+    case -HOLDLIST_REFUSED_ROW:
+        return "a row number is 3876 or more";
+    case -HOLDLIST_REFUSED_ORDER:
+        return "the entries of a bucket are not ascending";
+    case -HOLDLIST_REFUSED_FILLING:
+        return "a filling bit is set";
+    default:
+        return "there is no refusal of this number";
+    }
+}
+
 /* Sizes for settings that pass. The last two are the most bytes that a list can take in either form. */
 #define HOLDLIST_CELLS(buckets) ((size_t)4 * (buckets))
 #define HOLDLIST_SCRATCH(buckets) ((size_t)2 * (buckets))
@@ -68,55 +145,51 @@ enum {
 /*
  * Checks settings. Answers 0. Writes nothing. Refuses with 1, 2, 3, 4.
  */
-int64_t holdlist_settings_check(uint32_t rule, uint32_t width, uint32_t buckets, uint32_t mask);
+int64_t holdlist_settings_check(const holdlist_settings *settings);
 
 /*
  * The fingerprint of a tag, 1 to 2^width - 1. Writes nothing. Refuses with 1 to 4, 7.
  */
-int64_t holdlist_fingerprint(uint32_t rule, uint32_t width, uint32_t buckets, uint32_t mask,
-                             const uint8_t *tag, size_t tag_count);
+int64_t holdlist_fingerprint(const holdlist_settings *settings, const uint8_t *tag, size_t tag_count);
 
 /*
  * The home bucket of a tag. Writes nothing. Refuses with 1 to 4, 7.
  */
-int64_t holdlist_home(uint32_t rule, uint32_t width, uint32_t buckets, uint32_t mask,
-                      const uint8_t *tag, size_t tag_count);
+int64_t holdlist_home(const holdlist_settings *settings, const uint8_t *tag, size_t tag_count);
 
 /*
  * The offset of a fingerprint, by which its candidate buckets lie apart. Any 16-bit value has one. Writes nothing.
  * Refuses with 1 to 4.
  */
-int64_t holdlist_offset(uint32_t rule, uint32_t width, uint32_t buckets, uint32_t mask, uint16_t fingerprint);
+int64_t holdlist_offset(const holdlist_settings *settings, uint16_t fingerprint);
 
 /*
  * The candidate buckets of a fingerprint that stands in a bucket: answers how many, 2, or 4 under rule 2, and
  * writes them to out, in order, and 0 to the places after them. The first is the bucket itself; some may coincide.
  * Refuses with 1 to 4, 8.
  */
-int64_t holdlist_candidates(uint32_t rule, uint32_t width, uint32_t buckets, uint32_t mask,
-                            uint16_t fingerprint, uint32_t bucket, uint32_t out[4]);
+int64_t holdlist_candidates(const holdlist_settings *settings, uint16_t fingerprint, uint32_t bucket, uint32_t out[4]);
 
 /*
  * Empties every cell of the table, whatever it held. Answers 0. Refuses with 1 to 4, 5.
  */
-int64_t holdlist_clear(uint32_t rule, uint32_t width, uint32_t buckets, uint32_t mask,
-                       uint16_t *table, size_t table_count);
+int64_t holdlist_clear(const holdlist_settings *settings, uint16_t *table, size_t table_count);
 
 /*
  * Looks a tag up. Answers 1 where it is held, 0 where it is clear. A tag that was held and not released is always
  * found, as long as nothing is released that was not held. One that was never held is found where another with its
  * fingerprint and candidates is held. Writes nothing. Refuses with 1 to 4, 5, 7.
  */
-int64_t holdlist_lookup(uint32_t rule, uint32_t width, uint32_t buckets, uint32_t mask,
-                        const uint16_t *table, size_t table_count, const uint8_t *tag, size_t tag_count);
+int64_t holdlist_lookup(const holdlist_settings *settings, const uint16_t *table, size_t table_count,
+                        const uint8_t *tag, size_t tag_count);
 
 /*
  * Releases a tag: empties one cell that has its fingerprint. Answers 1 where it was released, 0 where there was none
  * and the table is as before. Release only what was held, since the cell may be that of another tag with the same
  * fingerprint and candidates. Refuses with 1 to 4, 5, 7.
  */
-int64_t holdlist_release(uint32_t rule, uint32_t width, uint32_t buckets, uint32_t mask,
-                         uint16_t *table, size_t table_count, const uint8_t *tag, size_t tag_count);
+int64_t holdlist_release(const holdlist_settings *settings, uint16_t *table, size_t table_count, const uint8_t *tag,
+                         size_t tag_count);
 
 /*
  * Holds a tag. Answers how many other entries moved to make room, 0 for none; a tag that is held twice has two
@@ -124,47 +197,54 @@ int64_t holdlist_release(uint32_t rule, uint32_t width, uint32_t buckets, uint32
  * Tags that spread well fill nine tenths of a large list and more before the first 9. Short tags that differ in
  * their last bytes alone, such as "tag 1" and "tag 2", may not: the hash spreads a byte by the bytes after it.
  */
-int64_t holdlist_hold(uint32_t rule, uint32_t width, uint32_t buckets, uint32_t mask,
-                      uint16_t *table, size_t table_count, uint32_t *scratch, size_t scratch_count,
-                      const uint8_t *tag, size_t tag_count);
+int64_t holdlist_hold(const holdlist_settings *settings, uint16_t *table, size_t table_count, uint32_t *scratch,
+                      size_t scratch_count, const uint8_t *tag, size_t tag_count);
 
 /*
  * Whether a bucket can be viewed: where the answer is 0, its cells are table + 4 * bucket, four of them. Writes
  * nothing. Refuses with 1 to 4, 5, 8.
  */
-int64_t holdlist_view_check(uint32_t rule, uint32_t width, uint32_t buckets, uint32_t mask,
-                            const uint16_t *table, size_t table_count, uint32_t bucket);
+int64_t holdlist_view_check(const holdlist_settings *settings, const uint16_t *table, size_t table_count,
+                            uint32_t bucket);
 
 /*
  * Writes the list as a hold file, settings and all. Answers how many bytes of out it wrote, at most
  * HOLDLIST_FILE_BYTES(buckets); later bytes of out keep their values. Refuses with 1 to 4, 5, 17, 16.
  */
-int64_t holdlist_file_write(uint32_t rule, uint32_t width, uint32_t buckets, uint32_t mask,
-                            const uint16_t *table, size_t table_count, uint8_t *out, size_t out_count);
+int64_t holdlist_file_write(const holdlist_settings *settings, const uint16_t *table, size_t table_count, uint8_t *out,
+                            size_t out_count);
 
 /*
- * Reads a hold file. Answers 0, with the cells in the table and the file's rule, width, bucket count and mask in
- * settings, in this order. The table must have the size that the file asks for. Bytes are checked as they come, and
- * nothing is written before all have passed.
+ * The settings that a hold file names, so that a table of their size can be lent to holdlist_file_read. Answers 0, with
+ * the settings in settings: they pass. It looks at the header alone, at most 7 bytes, so that the file may be bad
+ * behind it. Whatever it refuses holdlist_file_read refuses with the same number.
+ * Refuses with 11, 12, then 1 to 4 for the file's settings.
+ */
+int64_t holdlist_file_settings(const uint8_t *bytes, size_t bytes_count, holdlist_settings *settings);
+
+/*
+ * Reads a hold file. Answers 0, with the cells in the table and the file's settings in settings. The table must have
+ * the size that the file asks for: 4 * buckets, of the buckets that holdlist_file_settings tells. Bytes are checked as
+ * they come, and nothing is written before all have passed.
  * Refuses with 11, 12, then 1 to 4 for the file's settings, 5, 11, 13, 14, 15.
  */
 int64_t holdlist_file_read(const uint8_t *bytes, size_t bytes_count, uint16_t *table, size_t table_count,
-                           uint32_t settings[4]);
+                           holdlist_settings *settings);
 
 /*
  * Writes the list in its packed form, which leaves out the settings and the order within a bucket. Answers how many
  * bytes of out it wrote, HOLDLIST_PACKED_BYTES(width, buckets); later bytes of out keep their values.
  * Refuses with 1 to 4, 5, 17, 16.
  */
-int64_t holdlist_packed_write(uint32_t rule, uint32_t width, uint32_t buckets, uint32_t mask,
-                              const uint16_t *table, size_t table_count, uint8_t *out, size_t out_count);
+int64_t holdlist_packed_write(const holdlist_settings *settings, const uint16_t *table, size_t table_count,
+                              uint8_t *out, size_t out_count);
 
 /*
  * Reads a packed form. Answers how many cells are filled, with the cells in the table, those of a bucket ascending.
  * Nothing is written before all bytes have passed. Refuses with 1 to 4, 5, 11, 15, 18, 19, 20.
  */
-int64_t holdlist_packed_read(uint32_t rule, uint32_t width, uint32_t buckets, uint32_t mask,
-                             const uint8_t *bytes, size_t bytes_count, uint16_t *table, size_t table_count);
+int64_t holdlist_packed_read(const holdlist_settings *settings, const uint8_t *bytes, size_t bytes_count,
+                             uint16_t *table, size_t table_count);
 
 #ifdef __cplusplus
 }

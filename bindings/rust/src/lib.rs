@@ -224,7 +224,7 @@ impl HoldList {
     /// [`Refusal::Short`], [`Refusal::Map`], those of [`Settings::check`] for the file's settings,
     /// [`Refusal::BucketByte`], [`Refusal::Fingerprint`], [`Refusal::LeftOver`].
     pub fn load(bytes: &[u8]) -> Result<HoldList, Refusal> {
-        let mut table = vec![0; 4 * buckets_named(bytes)];
+        let mut table = vec![0; Settings::of_file(bytes)?.cells()];
         let settings = raw::file_read(bytes, &mut table)?;
         let entries = filled(&table);
         Ok(HoldList::of(settings, table, entries))
@@ -337,18 +337,4 @@ fn sure<T>(answer: Result<T, Refusal>) -> T {
 
 fn filled(table: &[u16]) -> usize {
     table.iter().filter(|&&cell| cell != 0).count()
-}
-
-/// How many buckets a hold file's header names, so that a table of that size can be lent. It
-/// decides nothing: where the header is bad, the reader refuses it before it looks at the table.
-fn buckets_named(bytes: &[u8]) -> usize {
-    let map = bytes.first().copied().unwrap_or(0);
-    if map & 4 == 0 {
-        return Settings::default().buckets as usize;
-    }
-    let at = 1 + usize::from(map & 1) + usize::from(map >> 1 & 1);
-    match bytes.get(at..at + 2) {
-        Some(&[low, high]) => 1 + usize::from(u16::from_le_bytes([low, high])),
-        _ => 0,
-    }
 }

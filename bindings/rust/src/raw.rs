@@ -7,75 +7,47 @@
 //! it.
 
 use crate::{Refusal, Settings};
+use std::mem::size_of;
 
 mod c {
+    use crate::Settings;
+
     extern "C" {
-        pub fn holdlist_settings_check(rule: u32, width: u32, buckets: u32, mask: u32) -> i64;
+        pub fn holdlist_settings_check(settings: *const Settings) -> i64;
         pub fn holdlist_fingerprint(
-            rule: u32,
-            width: u32,
-            buckets: u32,
-            mask: u32,
+            settings: *const Settings,
             tag: *const u8,
             tag_count: usize,
         ) -> i64;
-        pub fn holdlist_home(
-            rule: u32,
-            width: u32,
-            buckets: u32,
-            mask: u32,
-            tag: *const u8,
-            tag_count: usize,
-        ) -> i64;
-        pub fn holdlist_offset(
-            rule: u32,
-            width: u32,
-            buckets: u32,
-            mask: u32,
-            fingerprint: u16,
-        ) -> i64;
+        pub fn holdlist_home(settings: *const Settings, tag: *const u8, tag_count: usize) -> i64;
+        pub fn holdlist_offset(settings: *const Settings, fingerprint: u16) -> i64;
         pub fn holdlist_candidates(
-            rule: u32,
-            width: u32,
-            buckets: u32,
-            mask: u32,
+            settings: *const Settings,
             fingerprint: u16,
             bucket: u32,
             out: *mut u32,
         ) -> i64;
         pub fn holdlist_clear(
-            rule: u32,
-            width: u32,
-            buckets: u32,
-            mask: u32,
+            settings: *const Settings,
             table: *mut u16,
             table_count: usize,
         ) -> i64;
         pub fn holdlist_lookup(
-            rule: u32,
-            width: u32,
-            buckets: u32,
-            mask: u32,
+            settings: *const Settings,
             table: *const u16,
             table_count: usize,
             tag: *const u8,
             tag_count: usize,
         ) -> i64;
         pub fn holdlist_release(
-            rule: u32,
-            width: u32,
-            buckets: u32,
-            mask: u32,
+            settings: *const Settings,
             table: *mut u16,
             table_count: usize,
             tag: *const u8,
             tag_count: usize,
         ) -> i64;
         pub fn holdlist_hold(
-            rule: u32,
-            width: u32,
-            buckets: u32,
-            mask: u32,
+            settings: *const Settings,
             table: *mut u16,
             table_count: usize,
             scratch: *mut u32,
@@ -84,46 +56,39 @@ mod c {
             tag_count: usize,
         ) -> i64;
         pub fn holdlist_view_check(
-            rule: u32,
-            width: u32,
-            buckets: u32,
-            mask: u32,
+            settings: *const Settings,
             table: *const u16,
             table_count: usize,
             bucket: u32,
         ) -> i64;
         pub fn holdlist_file_write(
-            rule: u32,
-            width: u32,
-            buckets: u32,
-            mask: u32,
+            settings: *const Settings,
             table: *const u16,
             table_count: usize,
             out: *mut u8,
             out_count: usize,
+        ) -> i64;
+        pub fn holdlist_file_settings(
+            bytes: *const u8,
+            bytes_count: usize,
+            settings: *mut Settings,
         ) -> i64;
         pub fn holdlist_file_read(
             bytes: *const u8,
             bytes_count: usize,
             table: *mut u16,
             table_count: usize,
-            settings: *mut u32,
+            settings: *mut Settings,
         ) -> i64;
         pub fn holdlist_packed_write(
-            rule: u32,
-            width: u32,
-            buckets: u32,
-            mask: u32,
+            settings: *const Settings,
             table: *const u16,
             table_count: usize,
             out: *mut u8,
             out_count: usize,
         ) -> i64;
         pub fn holdlist_packed_read(
-            rule: u32,
-            width: u32,
-            buckets: u32,
-            mask: u32,
+            settings: *const Settings,
             bytes: *const u8,
             bytes_count: usize,
             table: *mut u16,
@@ -132,11 +97,14 @@ mod c {
     }
 }
 
+/// The library takes settings as four 32-bit numbers in a row.
+const _: () = assert!(size_of::<Settings>() == 4 * size_of::<u32>());
+
 /// A call with settings and the pointers and counts of slices. SAFETY: as the module says.
 macro_rules! call {
     ($f:ident, $s:expr $(, $a:expr)*) => {{
         let s: Settings = $s;
-        told(unsafe { c::$f(s.rule, s.width, s.buckets, s.mask $(, $a)*) })
+        told(unsafe { c::$f(&s $(, $a)*) })
     }};
 }
 
@@ -244,8 +212,15 @@ pub fn file_write(s: Settings, table: &[u16], out: &mut [u8]) -> Result<usize, R
     )
 }
 
+pub fn file_settings(bytes: &[u8]) -> Result<Settings, Refusal> {
+    let mut settings = Settings::default();
+    // SAFETY: as the module says
+    told(unsafe { c::holdlist_file_settings(bytes.as_ptr(), bytes.len(), &mut settings) })?;
+    Ok(settings)
+}
+
 pub fn file_read(bytes: &[u8], table: &mut [u16]) -> Result<Settings, Refusal> {
-    let mut settings = [0; 4];
+    let mut settings = Settings::default();
     // SAFETY: as the module says
     told(unsafe {
         c::holdlist_file_read(
@@ -253,16 +228,10 @@ pub fn file_read(bytes: &[u8], table: &mut [u16]) -> Result<Settings, Refusal> {
             bytes.len(),
             table.as_mut_ptr(),
             table.len(),
-            settings.as_mut_ptr(),
+            &mut settings,
         )
     })?;
-    let [rule, width, buckets, mask] = settings;
-    Ok(Settings {
-        rule,
-        width,
-        buckets,
-        mask,
-    })
+    Ok(settings)
 }
 
 pub fn packed_write(s: Settings, table: &[u16], out: &mut [u8]) -> Result<usize, Refusal> {
@@ -381,73 +350,96 @@ mod tests {
         assert_eq!(out, [8; 4]);
         assert_eq!(candidates(Settings::plain(12, 8), 5, 1, &mut out), Ok(2));
         assert_eq!((out[0], out[2], out[3]), (1, 0, 0));
-        let mut settings = [8; 4];
-        let mut table = [1u16; 4];
-        // SAFETY: as the module says
-        let r = unsafe {
-            c::holdlist_file_read(
-                [6, 4, 0].as_ptr(),
-                3,
-                table.as_mut_ptr(),
-                4,
-                settings.as_mut_ptr(),
-            )
+    }
+
+    #[test]
+    fn a_refused_reading_leaves_settings_and_table() {
+        let before = Settings {
+            rule: 8,
+            width: 8,
+            buckets: 8,
+            mask: 8,
         };
-        assert_eq!((r, settings, table), (-11, [8; 4], [1; 4]));
+        // the bytes end early; the map; each of the settings
+        let bad: [&[u8]; 6] = [
+            &[6, 4, 0],
+            &[0x10],
+            &[7, 3, 4, 0, 0],
+            &[6, 3, 0, 0],
+            &[6, 4, 2, 0],
+            &[15, 2, 4, 0, 0, 1, 0],
+        ];
+        for (bytes, number) in bad.into_iter().zip([11, 12, 1, 2, 3, 4]) {
+            let mut settings = before;
+            let mut table = [1u16; 4];
+            // SAFETY: as the module says
+            let r =
+                unsafe { c::holdlist_file_settings(bytes.as_ptr(), bytes.len(), &mut settings) };
+            assert_eq!((r, settings), (-number, before), "{bytes:02x?}");
+            // SAFETY: as the module says
+            let r = unsafe {
+                c::holdlist_file_read(
+                    bytes.as_ptr(),
+                    bytes.len(),
+                    table.as_mut_ptr(),
+                    table.len(),
+                    &mut settings,
+                )
+            };
+            assert_eq!(
+                (r, settings, table),
+                (-number, before, [1; 4]),
+                "{bytes:02x?}"
+            );
+        }
     }
 
     #[test]
     fn a_null_pointer_with_count_0_is_an_empty_buffer() {
+        let eight = Settings::plain(12, 8);
+        let mut settings = eight;
         // SAFETY: a null pointer with count 0 is an empty buffer
         unsafe {
-            assert_eq!(c::holdlist_fingerprint(0, 12, 8, 0, null(), 0), -7);
-            assert_eq!(c::holdlist_home(0, 12, 8, 0, null(), 0), -7);
-            assert_eq!(c::holdlist_clear(0, 12, 8, 0, null_mut(), 0), -5);
-            assert_eq!(c::holdlist_lookup(0, 12, 8, 0, null(), 0, null(), 0), -5);
+            assert_eq!(c::holdlist_fingerprint(&eight, null(), 0), -7);
+            assert_eq!(c::holdlist_home(&eight, null(), 0), -7);
+            assert_eq!(c::holdlist_clear(&eight, null_mut(), 0), -5);
+            assert_eq!(c::holdlist_lookup(&eight, null(), 0, null(), 0), -5);
+            assert_eq!(c::holdlist_release(&eight, null_mut(), 0, null(), 0), -5);
             assert_eq!(
-                c::holdlist_release(0, 12, 8, 0, null_mut(), 0, null(), 0),
+                c::holdlist_hold(&eight, null_mut(), 0, null_mut(), 0, null(), 0),
                 -5
             );
+            assert_eq!(c::holdlist_view_check(&eight, null(), 0, 0), -5);
+            assert_eq!(c::holdlist_file_write(&eight, null(), 0, null_mut(), 0), -5);
             assert_eq!(
-                c::holdlist_hold(0, 12, 8, 0, null_mut(), 0, null_mut(), 0, null(), 0),
-                -5
-            );
-            assert_eq!(c::holdlist_view_check(0, 12, 8, 0, null(), 0, 0), -5);
-            assert_eq!(
-                c::holdlist_file_write(0, 12, 8, 0, null(), 0, null_mut(), 0),
-                -5
-            );
-            assert_eq!(
-                c::holdlist_file_read(null(), 0, null_mut(), 0, [0; 4].as_mut_ptr()),
+                c::holdlist_file_read(null(), 0, null_mut(), 0, &mut settings),
                 -11
             );
+            assert_eq!(c::holdlist_file_settings(null(), 0, &mut settings), -11);
             assert_eq!(
-                c::holdlist_packed_write(0, 12, 8, 0, null(), 0, null_mut(), 0),
+                c::holdlist_packed_write(&eight, null(), 0, null_mut(), 0),
                 -5
             );
             assert_eq!(
-                c::holdlist_packed_read(0, 12, 8, 0, null(), 0, null_mut(), 0),
+                c::holdlist_packed_read(&eight, null(), 0, null_mut(), 0),
                 -5
             );
             let mut table = [0u16; 4];
+            assert_eq!(c::holdlist_lookup(&S, table.as_ptr(), 4, null(), 0), -7);
             assert_eq!(
-                c::holdlist_lookup(0, 4, 1, 0, table.as_ptr(), 4, null(), 0),
-                -7
-            );
-            assert_eq!(
-                c::holdlist_hold(0, 4, 1, 0, table.as_mut_ptr(), 4, null_mut(), 0, null(), 0),
+                c::holdlist_hold(&S, table.as_mut_ptr(), 4, null_mut(), 0, null(), 0),
                 -6
             );
             assert_eq!(
-                c::holdlist_file_write(0, 4, 1, 0, table.as_ptr(), 4, null_mut(), 0),
+                c::holdlist_file_write(&S, table.as_ptr(), 4, null_mut(), 0),
                 -16
             );
             assert_eq!(
-                c::holdlist_packed_write(0, 4, 1, 0, table.as_ptr(), 4, null_mut(), 0),
+                c::holdlist_packed_write(&S, table.as_ptr(), 4, null_mut(), 0),
                 -16
             );
             assert_eq!(
-                c::holdlist_packed_read(0, 4, 1, 0, null(), 0, table.as_mut_ptr(), 4),
+                c::holdlist_packed_read(&S, null(), 0, table.as_mut_ptr(), 4),
                 -11
             );
         }

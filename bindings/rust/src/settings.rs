@@ -12,6 +12,7 @@ use crate::{raw, Refusal};
 /// assert_eq!(Settings::masked(12, 16, 16).check(), Err(Refusal::Mask));
 /// ```
 #[derive(Clone, Copy, Debug, PartialEq, Eq, Hash)]
+#[repr(C)]
 pub struct Settings {
     /// 0 plain, 1 ring, 2 masked.
     pub rule: u32,
@@ -58,6 +59,24 @@ impl Settings {
             buckets,
             mask,
         }
+    }
+
+    /// The settings that a hold file names: they pass. It looks at the file's header alone, so that
+    /// the file may be bad behind it. Whatever it refuses [`HoldList::load`] refuses too.
+    ///
+    /// ```
+    /// use holdlist::{Refusal, Settings};
+    ///
+    /// assert_eq!(Settings::of_file(&[0x06, 4, 0, 0]), Ok(Settings::plain(4, 1)));
+    /// assert_eq!(Settings::of_file(&[0x06, 4, 0]), Err(Refusal::Short));
+    /// ```
+    ///
+    /// # Errors
+    /// [`Refusal::Short`], [`Refusal::Map`], then as [`Settings::check`].
+    ///
+    /// [`HoldList::load`]: crate::HoldList::load
+    pub fn of_file(bytes: &[u8]) -> Result<Settings, Refusal> {
+        raw::file_settings(bytes)
     }
 
     /// Whether the settings pass.

@@ -61,6 +61,20 @@ fn every_refusal_has_its_number_and_says_what_it_means() {
 }
 
 #[test]
+fn the_c_header_says_the_same_of_every_refusal() {
+    let header = include_str!("../../c/holdlist.h");
+    for refusal in Refusal::ALL {
+        let says = format!("return \"{}\";", refusal.meaning());
+        assert!(header.contains(&says), "{refusal}");
+    }
+    // each number once, by its name
+    assert_eq!(
+        header.matches("case -HOLDLIST_REFUSED_").count(),
+        Refusal::ALL.len()
+    );
+}
+
+#[test]
 fn settings_are_refused_with_1_to_4_in_this_order() {
     let settings = |rule, width, buckets, mask| Settings {
         rule,
@@ -197,6 +211,13 @@ fn a_damaged_hold_file_is_refused_with_its_number() {
     for (bytes, refusal) in cases {
         assert_eq!(HoldList::load(bytes), Err(refusal), "{bytes:02x?}");
     }
+    // the first seventeen by the header, which the others pass
+    for (i, (bytes, refusal)) in cases.into_iter().enumerate() {
+        match Settings::of_file(bytes) {
+            Ok(s) => assert!(i >= 17 && s.check() == Ok(()), "{bytes:02x?}"),
+            Err(r) => assert!(i < 17 && r == refusal, "{bytes:02x?}"),
+        }
+    }
 }
 
 #[test]
@@ -308,6 +329,7 @@ fn a_saved_list_is_read_back() {
             let copy = HoldList::load(&bytes).unwrap();
             assert_eq!(copy, list, "{s:?}");
             assert_eq!((copy.len(), copy.settings()), (tags, s));
+            assert_eq!(Settings::of_file(&bytes), Ok(s));
             assert_eq!(copy.save(), bytes);
             // a file that ends anywhere else is refused
             assert_eq!(

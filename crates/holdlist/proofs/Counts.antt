@@ -1,10 +1,10 @@
--- A count that a call answers is at most the length of what it writes, so that a signed number has room for it.
+-- A count that a call answers is at most the length of what it leaves, so that a signed number has room for it.
 -- Assumes nothing.
-use mathlib.Core.Path.{_≡_, ap}
+use mathlib.Core.Path.{_≡_, sym, ap, subst, _∙_}
 use mathlib.Core.Bool.{Bool, true, false, cond}
 use mathlib.Core.Option.{Option, none, some}
 use mathlib.Core.List.{List, [], _∷_, _++_}
-use Prim.Native.Nat.{ℕ, _+_, _≤_}
+use Prim.Native.Nat.{ℕ, _^_, _≤_, _<_}
 use native.Mathlib.Omega.{arith}
 use lib.Dec.{eqb}
 use lib.ListN.{length, drop, length-append}
@@ -14,33 +14,35 @@ use Rattle.refusals.specs.Outcomes.{Answer, given, refused, unless, done, Outco
 use Rattle.index.specs.declared.Settings.{Settings}
 use Rattle.calls.specs.Cells.{filledCount}
 use Rattle.calls.specs.Calls.{tableChecks}
-use Rattle.calls.specs.WrittenForms.{Written, writeChecks, written}
+use Rattle.calls.specs.WrittenForms.{writeChecks, written}
 use Rattle.file_form.specs.Writer.{fileOf, writeFile}
 use Rattle.packed_form.specs.Writer.{packedOf, writePacked}
 use Rattle.packed_form.specs.Reader.{withCount, unpack, lengthChecks, readPacked}
 
-never : {A : Type 0} {n k : ℕ} → given n ≡ refused k → A
-never a = absurd (let q : _≡_ {A = ℕ} 0 1 = cc in omega arith)
+-- what a call answers, if it counts, is within what it leaves
+abbrev Within : Answer ℕ → List ℕ → Type 0
+Within (given n) l = n ≤ length l
+Within (refused k) l = Unit {0}
+
+pub record Counts (x : Outcome ℕ (List ℕ)) : Type 0 where
+  pub within : Within (x .answer) (x .leaves)
 
 -- ── the two writers ──
-written-below : (s : Settings) (c bytes out : List ℕ) {l : List ℕ} {n : ℕ} → outcome (given n) l ≡ written s c bytes out → n ≤ length l
+written-counts : (s : Settings) (c bytes out : List ℕ) → Counts (written s c bytes out)
 unfolding written
-written-below s c bytes out {l} {n} e = go (firstMet (writeChecks s c (length out) (length bytes))) e
+written-counts s c bytes out = go (firstMet (writeChecks s c (length out) (length bytes)))
   where
-    go : (o : Option ℕ) → outcome (given n) l ≡ keeping out (unless o (given (done (length bytes) (bytes ++ drop (length bytes) out)))) → n ≤ length l
-    go (some k) f = never (ap (λ (w : Written). w .answer) f)
-    go none f =
-        let a = ap (λ (w : Written). w .answer) f in
-        let q : n ≡ length bytes = cc in
-        omega (arith, ap (λ (w : Written). length (w .leaves)) f, length-append bytes (drop (length bytes) out))
+    go : (o : Option ℕ) → Counts (keeping out (unless o (given (done (length bytes) (bytes ++ drop (length bytes) out)))))
+    go (some k) = record { within = tt }
+    go none = record { within = omega (arith, length-append bytes (drop (length bytes) out)) }
 
-pub file-below : (s : Settings) (c out : List ℕ) {l : List ℕ} {n : ℕ} → outcome (given n) l ≡ writeFile s c out → n ≤ length l
+pub file-counts : (s : Settings) (c out : List ℕ) → Counts (writeFile s c out)
 unfolding writeFile
-file-below s c out e = written-below s c (fileOf s c) out e
+file-counts s c out = written-counts s c (fileOf s c) out
 
-pub packed-below : (s : Settings) (c out : List ℕ) {l : List ℕ} {n : ℕ} → outcome (given n) l ≡ writePacked s c out → n ≤ length l
+pub packed-counts : (s : Settings) (c out : List ℕ) → Counts (writePacked s c out)
 unfolding writePacked
-packed-below s c out e = written-below s c (packedOf s c) out e
+packed-counts s c out = written-counts s c (packedOf s c) out
 
 -- ── the reader of the packed form ──
 one-at-most : (t : Bool) → cond t 0 1 ≤ 1
@@ -51,14 +53,18 @@ filled-below : (l : List ℕ) → filledCount l ≤ length l
 filled-below [] = omega arith
 filled-below (v ∷ l) = omega (arith, one-at-most (eqb v 0), filled-below l)
 
-pub unpacked-below : (s : Settings) (bytes c : List ℕ) {l : List ℕ} {n : ℕ} → outcome (given n) l ≡ readPacked s bytes c → n ≤ length l
+pub unpacked-counts : (s : Settings) (bytes c : List ℕ) → Counts (readPacked s bytes c)
 unfolding readPacked
-unpacked-below s bytes c {l} {n} e = go (firstMet (tableChecks s c ++ lengthChecks s bytes)) (unpack (s .width) (s .buckets) (numberFrom bytes)) e
+unpacked-counts s bytes c = go (firstMet (tableChecks s c ++ lengthChecks s bytes)) (unpack (s .width) (s .buckets) (numberFrom bytes))
   where
-    go : (o : Option ℕ) (u : Answer (List ℕ)) → outcome (given n) l ≡ keeping c (unless o (withCount u)) → n ≤ length l
-    go (some k) u f = never (ap (λ (x : Outcome ℕ (List ℕ)). x .answer) f)
-    go none (refused k) f = never (ap (λ (x : Outcome ℕ (List ℕ)). x .answer) f)
-    go none (given k) f =
-        let a = ap (λ (x : Outcome ℕ (List ℕ)). x .answer) f in
-        let q : n ≡ filledCount k = cc in
-        omega (arith, filled-below k, ap (λ (x : Outcome ℕ (List ℕ)). length (x .leaves)) f)
+    go : (o : Option ℕ) (u : Answer (List ℕ)) → Counts (keeping c (unless o (withCount u)))
+    go (some k) u = record { within = tt }
+    go none (refused k) = record { within = tt }
+    go none (given k) = record { within = filled-below k }
+
+-- ── each of the three, answered as the case r′ of its type, which counts n ──
+pub fits : {R : Type 0} (is : R → Answer ℕ) {r r′ : R} {n : ℕ} {left : List ℕ} {x : Outcome ℕ (List ℕ)} → outcome (is r) left ≡ x → Counts x → r ≡ r′ → is r′ ≡ given n → length left < 2 ^ 63
+    → n < 2 ^ 63
+fits is {n = n} {left = left} e h q g b =
+    let w : n ≤ length left = subst (λ (a : Answer ℕ). Within a left) (ap is q ∙ g) (subst Counts (sym e) h .within) in
+    omega arith

@@ -21,7 +21,7 @@ use Rattle.index.specs.declared.Settings.{Settings}
 use Rattle.index.specs.declared.CandidateList.{CandidateList}
 use Rattle.calls.specs.Calls.{viewChecks, viewNumber}
 use Rattle.holdlist.specs.Numbers.{minus, signed, itself}
-use Rattle.holdlist.specs.Calls.{settingsAnswer, viewAnswer, candidatesOut, noNumber, settingsOut}
+use Rattle.holdlist.specs.Calls.{settingsAnswer, viewAnswer, candidatesOut, settingsOut}
 
 -- a result is written as bits and read back
 pub crosses : {z y : ℤ} → mag z < 2 ^ 63 → z ≡ y → toZ w64 (ofZ w64 z) ≡ y
@@ -71,13 +71,6 @@ told {A = A} {B = B} f is {left = left} q e s =
     let w = sym (ap (λ r. outcome (is r) left) q) ∙ e ∙ s in
     record { number = ap (λ (z : Outcome A B). signed f (z .answer)) w; leaves = ap (λ (z : Outcome A B). z .leaves) w }
 
--- a hold file that was read: its settings go to the places that were lent for them
-pub record Read (a : Answer Settings) (left out : List ℕ) (x : Outcome Settings (List ℕ)) : Type 0 where
-  pub number : signed noNumber a ≡ signed noNumber (x .answer)
-  pub leaves : left ≡ x .leaves
-  pub settings : settingsOut a out ≡ settingsOut (x .answer) out
-
-pub read-told : {R : Type 0} (is : R → Answer Settings) {r r′ : R} {left out : List ℕ} {x : Outcome Settings (List ℕ)} → r ≡ r′ → outcome (is r) left ≡ x → Read (is r′) left out x
-read-told is {left = left} {out = out} q e =
-    let t = told noNumber is q e refl in
-    record { number = t .number; leaves = t .leaves; settings = sym (ap (λ r. settingsOut (is r) out) q) ∙ ap (λ (z : Outcome Settings (List ℕ)). settingsOut (z .answer) out) e }
+-- the settings of a hold file, in the places that were lent for them
+pub places : {R : Type 0} (is : R → Answer Settings) (out : List ℕ) {r r′ : R} {a : Answer Settings} → r ≡ r′ → is r ≡ a → settingsOut (is r′) out ≡ settingsOut a out
+places is out q e = ap (λ (x : Answer Settings). settingsOut x out) (sym (ap is q) ∙ e)

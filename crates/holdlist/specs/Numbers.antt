@@ -1,15 +1,20 @@
 -- An answer as one signed number: 0 or more is the answer itself, below 0 is minus the number of a refusal. Every refusal's number is
 -- above 0, so that no two answers share a number.
 -- Assumes nothing.
+use mathlib.Core.List.{List, [], _∷_}
 use Prim.Native.Nat.{ℕ}
 use lib.IntN.{ℤ, pos, negℤ}
+use lib.ListN.{getD}
 use Rattle.refusals.specs.Outcomes.{Answer, refused, given}
 use Rattle.index.specs.declared.Settings.{Settings}
 use Rattle.calls.specs.Calls.{Said, cleared, held, clear, released, absent, accepted}
 
--- the settings that four numbers are
-abbrev pub settingsOf : ℕ → ℕ → ℕ → ℕ → Settings
-settingsOf rule width buckets mask = record { rule = rule; width = width; buckets = buckets; mask = mask }
+-- the settings that a list of numbers is, as C's struct has them, and the list that settings are
+abbrev pub settingsAt : List ℕ → Settings
+settingsAt l = record { rule = getD l 0 0; width = getD l 1 0; buckets = getD l 2 0; mask = getD l 3 0 }
+
+abbrev pub numbersOf : Settings → List ℕ
+numbersOf s = s .rule ∷ s .width ∷ s .buckets ∷ s .mask ∷ []
 
 abbrev pub minus : ℕ → ℤ
 minus n = negℤ (pos n)

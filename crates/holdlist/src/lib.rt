@@ -1,6 +1,7 @@
-// The filter for C. Each call takes numbers and lent buffers, and its result is one signed number: 0 or
-// more is the answer, below 0 is minus the number of a refusal. Nothing is asked of a caller but that its
-// buffers are there, and that one which is written overlaps no other.
+// The filter for C. Each call takes settings, numbers and lent buffers, and its result is one signed number: 0
+// or more is the answer, below 0 is minus the number of a refusal. Settings are lent as four numbers, as which
+// C's struct lies in memory. Nothing is asked of a caller but that its buffers are there, and that one which is
+// written overlaps no other.
 ghost use mathlib.Core.Path.{_≡_};
 ghost use mathlib.Core.Option.{some};
 ghost use Prim.Native.Nat.{ℕ, _<_, _^_};
@@ -10,10 +11,10 @@ ghost use Rattle.refusals.specs.Checks.{firstMet};
 ghost use Rattle.index.specs.Answers.{entryOf, offsetAnswer, candidatesAnswer};
 ghost use Rattle.calls.specs.Calls.{clearTable, lookup as lookupOf, release as releaseOf, hold as holdOf, holdChecks};
 ghost use Rattle.file_form.specs.Writer.{writeFile};
-ghost use Rattle.file_form.specs.Reader.{readFile};
+ghost use Rattle.file_form.specs.Reader.{readFile, headerAnswer};
 ghost use Rattle.packed_form.specs.Writer.{writePacked};
 ghost use Rattle.packed_form.specs.Reader.{readPacked};
-ghost use Rattle.holdlist.specs.Numbers.{settingsOf, minus, signed, itself, saidNumber};
+ghost use Rattle.holdlist.specs.Numbers.{settingsAt, numbersOf, minus, signed, itself, saidNumber};
 ghost use Rattle.holdlist.specs.Calls.{settingsAnswer, viewAnswer, printOf, homeOf, candidatesOut, noNumber, settingsOut};
 use holdfile::ReadAnswer;
 use holdfile::WriteAnswer;
@@ -49,51 +50,62 @@ fn refused(n: u32) -> i64
     0 - (n as i64)
 }
 
-// The settings as they are lent: the one place where they are made.
-fn settings(rule: u32, width: u32, buckets: u32, mask: u32) -> Settings
-    ensures { λ r. ⌜ r ≡ settingsOf rule width buckets mask ⌝ }
+// A 16-bit answer.
+fn wide(x: u16) -> u32
+    ensures { λ r. ⌜ r ≡ x ⌝ }
+{
+    x as u32
+}
+
+// The settings that are lent, as the numbers of C's struct in their order: the one place where they are made.
+fn lent_settings(settings: &[u32; 4]) -> Settings
+    ensures { λ r. ⌜ r ≡ settingsAt (now (settings .entry)) ⌝ }
 {
     Settings {
-        rule,
-        width,
-        buckets,
-        mask,
+        rule: settings[0],
+        width: settings[1],
+        buckets: settings[2],
+        mask: settings[3],
     }
+}
+
+// And the one place where they are handed out, with the answer 0.
+fn hand_out(s: Settings, settings: &mut [u32; 4]) -> i64
+    ensures { λ r. ⌜ (r ≡ pos 0) × (now (settings .exit) ≡ numbersOf s) ⌝ }
+{
+    let all = [s.rule, s.width, s.buckets, s.mask];
+    *settings = all;
+    0
 }
 
 // 0, or minus the number that refuses the settings.
 #[no_mangle]
-pub extern "C" fn holdlist_settings_check(rule: u32, width: u32, buckets: u32, mask: u32) -> i64
-    ensures { λ r. ⌜ r ≡ signed itself (settingsAnswer (settingsOf rule width buckets mask)) ⌝ }
+pub extern "C" fn holdlist_settings_check(settings: &[u32; 4]) -> i64
+    ensures { λ r. ⌜ r ≡ signed itself (settingsAnswer (settingsAt (now (settings .entry)))) ⌝ }
 {
-    let s = settings(rule, width, buckets, mask);
-    refused(s.refusal())
+    let s = lent_settings(settings);
+    let first = s.refusal();
+    refused(first)
 }
 
 // The fingerprint of a tag.
 #[no_mangle]
-pub extern "C" fn holdlist_fingerprint(
-    rule: u32,
-    width: u32,
-    buckets: u32,
-    mask: u32,
-    tag: &[u8],
-) -> i64
-    ensures { λ r. ⌜ r ≡ signed printOf (entryOf (settingsOf rule width buckets mask) (now (tag .entry))) ⌝ }
+pub extern "C" fn holdlist_fingerprint(settings: &[u32; 4], tag: &[u8]) -> i64
+    ensures { λ r. ⌜ r ≡ signed printOf (entryOf (settingsAt (now (settings .entry))) (now (tag .entry))) ⌝ }
 {
-    let s = settings(rule, width, buckets, mask);
+    let s = lent_settings(settings);
     match index::entry_of(s, tag) {
-        TagEntry::At(p, _) => given(p as u32),
+        TagEntry::At(p, _) => given(wide(p)),
         TagEntry::Refused(n) => refused(n),
     }
 }
 
 // The home bucket of a tag.
 #[no_mangle]
-pub extern "C" fn holdlist_home(rule: u32, width: u32, buckets: u32, mask: u32, tag: &[u8]) -> i64
-    ensures { λ r. ⌜ r ≡ signed homeOf (entryOf (settingsOf rule width buckets mask) (now (tag .entry))) ⌝ }
+pub extern "C" fn holdlist_home(settings: &[u32; 4], tag: &[u8]) -> i64
+    ensures { λ r. ⌜ r ≡ signed homeOf (entryOf (settingsAt (now (settings .entry))) (now (tag .entry))) ⌝ }
 {
-    let s = settings(rule, width, buckets, mask);
+    let s = lent_settings(settings);
     match index::entry_of(s, tag) {
         TagEntry::At(_, home) => given(home),
         TagEntry::Refused(n) => refused(n),
@@ -102,16 +114,10 @@ pub extern "C" fn holdlist_home(rule: u32, width: u32, buckets: u32, mask: u32, 
 
 // The offset of any 16-bit value.
 #[no_mangle]
-pub extern "C" fn holdlist_offset(
-    rule: u32,
-    width: u32,
-    buckets: u32,
-    mask: u32,
-    fingerprint: u16,
-) -> i64
-    ensures { λ r. ⌜ r ≡ signed itself (offsetAnswer (settingsOf rule width buckets mask) fingerprint) ⌝ }
+pub extern "C" fn holdlist_offset(settings: &[u32; 4], fingerprint: u16) -> i64
+    ensures { λ r. ⌜ r ≡ signed itself (offsetAnswer (settingsAt (now (settings .entry))) fingerprint) ⌝ }
 {
-    let s = settings(rule, width, buckets, mask);
+    let s = lent_settings(settings);
     match index::offset(s, fingerprint) {
         OffsetAnswer::Is(d) => given(d),
         OffsetAnswer::Refused(n) => refused(n),
@@ -121,18 +127,15 @@ pub extern "C" fn holdlist_offset(
 // The candidates of a fingerprint in a bucket, to out, and how many there are. Places past them are 0.
 #[no_mangle]
 pub extern "C" fn holdlist_candidates(
-    rule: u32,
-    width: u32,
-    buckets: u32,
-    mask: u32,
+    settings: &[u32; 4],
     fingerprint: u16,
     bucket: u32,
     out: &mut [u32; 4],
 ) -> i64
-    ensures { λ r. ⌜ r ≡ signed length (candidatesAnswer (settingsOf rule width buckets mask) fingerprint bucket) ⌝ }
-    ensures { λ r. ⌜ now (out .exit) ≡ candidatesOut (candidatesAnswer (settingsOf rule width buckets mask) fingerprint bucket) (now (out .entry)) ⌝ }
+    ensures { λ r. ⌜ r ≡ signed length (candidatesAnswer (settingsAt (now (settings .entry))) fingerprint bucket) ⌝ }
+    ensures { λ r. ⌜ now (out .exit) ≡ candidatesOut (candidatesAnswer (settingsAt (now (settings .entry))) fingerprint bucket) (now (out .entry)) ⌝ }
 {
-    let s = settings(rule, width, buckets, mask);
+    let s = lent_settings(settings);
     let list = index::candidates(s, fingerprint, bucket);
     let n = list.refusal;
     if n != 0 {
@@ -145,17 +148,11 @@ pub extern "C" fn holdlist_candidates(
 
 // Every cell empty: 0.
 #[no_mangle]
-pub extern "C" fn holdlist_clear(
-    rule: u32,
-    width: u32,
-    buckets: u32,
-    mask: u32,
-    table: &mut [u16],
-) -> i64
-    ensures { λ r. ⌜ r ≡ signed saidNumber (clearTable (settingsOf rule width buckets mask) (now (table .entry)) .answer) ⌝ }
-    ensures { λ r. ⌜ now (table .exit) ≡ clearTable (settingsOf rule width buckets mask) (now (table .entry)) .leaves ⌝ }
+pub extern "C" fn holdlist_clear(settings: &[u32; 4], table: &mut [u16]) -> i64
+    ensures { λ r. ⌜ r ≡ signed saidNumber (clearTable (settingsAt (now (settings .entry))) (now (table .entry)) .answer) ⌝ }
+    ensures { λ r. ⌜ now (table .exit) ≡ clearTable (settingsAt (now (settings .entry))) (now (table .entry)) .leaves ⌝ }
 {
-    let s = settings(rule, width, buckets, mask);
+    let s = lent_settings(settings);
     match table::clear(s, table) {
         ClearAnswer::Cleared => 0,
         ClearAnswer::Refused(n) => refused(n),
@@ -164,17 +161,10 @@ pub extern "C" fn holdlist_clear(
 
 // 1 where the tag is held, 0 where it is clear.
 #[no_mangle]
-pub extern "C" fn holdlist_lookup(
-    rule: u32,
-    width: u32,
-    buckets: u32,
-    mask: u32,
-    table: &[u16],
-    tag: &[u8],
-) -> i64
-    ensures { λ r. ⌜ r ≡ signed saidNumber (lookupOf (settingsOf rule width buckets mask) (now (table .entry)) (now (tag .entry)) .answer) ⌝ }
+pub extern "C" fn holdlist_lookup(settings: &[u32; 4], table: &[u16], tag: &[u8]) -> i64
+    ensures { λ r. ⌜ r ≡ signed saidNumber (lookupOf (settingsAt (now (settings .entry))) (now (table .entry)) (now (tag .entry)) .answer) ⌝ }
 {
-    let s = settings(rule, width, buckets, mask);
+    let s = lent_settings(settings);
     match table::lookup(s, table, tag) {
         LookupAnswer::Held => 1,
         LookupAnswer::Clear => 0,
@@ -184,18 +174,11 @@ pub extern "C" fn holdlist_lookup(
 
 // 1 where a copy of the tag's fingerprint was taken out, 0 where there is none.
 #[no_mangle]
-pub extern "C" fn holdlist_release(
-    rule: u32,
-    width: u32,
-    buckets: u32,
-    mask: u32,
-    table: &mut [u16],
-    tag: &[u8],
-) -> i64
-    ensures { λ r. ⌜ r ≡ signed saidNumber (releaseOf (settingsOf rule width buckets mask) (now (table .entry)) (now (tag .entry)) .answer) ⌝ }
-    ensures { λ r. ⌜ now (table .exit) ≡ releaseOf (settingsOf rule width buckets mask) (now (table .entry)) (now (tag .entry)) .leaves ⌝ }
+pub extern "C" fn holdlist_release(settings: &[u32; 4], table: &mut [u16], tag: &[u8]) -> i64
+    ensures { λ r. ⌜ r ≡ signed saidNumber (releaseOf (settingsAt (now (settings .entry))) (now (table .entry)) (now (tag .entry)) .answer) ⌝ }
+    ensures { λ r. ⌜ now (table .exit) ≡ releaseOf (settingsAt (now (settings .entry))) (now (table .entry)) (now (tag .entry)) .leaves ⌝ }
 {
-    let s = settings(rule, width, buckets, mask);
+    let s = lent_settings(settings);
     match table::release(s, table, tag) {
         ReleaseAnswer::Released => 1,
         ReleaseAnswer::Absent => 0,
@@ -206,19 +189,16 @@ pub extern "C" fn holdlist_release(
 // The number of entries that moved to make room for the tag.
 #[no_mangle]
 pub extern "C" fn holdlist_hold(
-    rule: u32,
-    width: u32,
-    buckets: u32,
-    mask: u32,
+    settings: &[u32; 4],
     table: &mut [u16],
     scratch: &mut [u32],
     tag: &[u8],
 ) -> i64
-    ensures { λ r. ⌜ r ≡ signed saidNumber (holdOf (settingsOf rule width buckets mask) (now (table .entry)) (length (now (scratch .entry))) (now (tag .entry)) .answer) ⌝ }
-    ensures { λ r. ⌜ now (table .exit) ≡ holdOf (settingsOf rule width buckets mask) (now (table .entry)) (length (now (scratch .entry))) (now (tag .entry)) .leaves ⌝ }
-    ensures { λ r. ⌜ ((n : ℕ) → firstMet (holdChecks (settingsOf rule width buckets mask) (now (table .entry)) (length (now (scratch .entry))) (now (tag .entry))) ≡ some n → now (scratch .exit) ≡ now (scratch .entry)) ⌝ }
+    ensures { λ r. ⌜ r ≡ signed saidNumber (holdOf (settingsAt (now (settings .entry))) (now (table .entry)) (length (now (scratch .entry))) (now (tag .entry)) .answer) ⌝ }
+    ensures { λ r. ⌜ now (table .exit) ≡ holdOf (settingsAt (now (settings .entry))) (now (table .entry)) (length (now (scratch .entry))) (now (tag .entry)) .leaves ⌝ }
+    ensures { λ r. ⌜ ((n : ℕ) → firstMet (holdChecks (settingsAt (now (settings .entry))) (now (table .entry)) (length (now (scratch .entry))) (now (tag .entry))) ≡ some n → now (scratch .exit) ≡ now (scratch .entry)) ⌝ }
 {
-    let s = settings(rule, width, buckets, mask);
+    let s = lent_settings(settings);
     match table::hold(s, table, scratch, tag) {
         HoldAnswer::Accepted(moves) => given(moves),
         HoldAnswer::Refused(n) => refused(n),
@@ -227,41 +207,28 @@ pub extern "C" fn holdlist_hold(
 
 // 0 where the bucket can be seen.
 #[no_mangle]
-pub extern "C" fn holdlist_view_check(
-    rule: u32,
-    width: u32,
-    buckets: u32,
-    mask: u32,
-    table: &[u16],
-    bucket: u32,
-) -> i64
-    ensures { λ r. ⌜ r ≡ signed itself (viewAnswer (settingsOf rule width buckets mask) (now (table .entry)) bucket) ⌝ }
+pub extern "C" fn holdlist_view_check(settings: &[u32; 4], table: &[u16], bucket: u32) -> i64
+    ensures { λ r. ⌜ r ≡ signed itself (viewAnswer (settingsAt (now (settings .entry))) (now (table .entry)) bucket) ⌝ }
 {
-    let s = settings(rule, width, buckets, mask);
-    refused(table::view_check(s, table, bucket))
+    let s = lent_settings(settings);
+    let seen = table::view_check(s, table, bucket);
+    refused(seen)
 }
 
 // The hold file of the table, to out, and how many bytes it takes. Later bytes of out stay as they are.
 #[no_mangle]
-pub extern "C" fn holdlist_file_write(
-    rule: u32,
-    width: u32,
-    buckets: u32,
-    mask: u32,
-    table: &[u16],
-    out: &mut [u8],
-) -> i64
-    ensures { λ r. ⌜ r ≡ signed itself (writeFile (settingsOf rule width buckets mask) (now (table .entry)) (now (out .entry)) .answer) ⌝ }
-    ensures { λ r. ⌜ now (out .exit) ≡ writeFile (settingsOf rule width buckets mask) (now (table .entry)) (now (out .entry)) .leaves ⌝ }
+pub extern "C" fn holdlist_file_write(settings: &[u32; 4], table: &[u16], out: &mut [u8]) -> i64
+    ensures { λ r. ⌜ r ≡ signed itself (writeFile (settingsAt (now (settings .entry))) (now (table .entry)) (now (out .entry)) .answer) ⌝ }
+    ensures { λ r. ⌜ now (out .exit) ≡ writeFile (settingsAt (now (settings .entry))) (now (table .entry)) (now (out .entry)) .leaves ⌝ }
 {
-    let s = settings(rule, width, buckets, mask);
+    let s = lent_settings(settings);
     match holdfile::write(s, table, out) {
         WriteAnswer::Written(n) => given_count(n),
         WriteAnswer::Refused(n) => refused(n),
     }
 }
 
-// A hold file read: its cells to the table, and its rule, width, bucket count and mask to settings.
+// A hold file read: its cells to the table, and its settings to settings. 0.
 #[no_mangle]
 pub extern "C" fn holdlist_file_read(
     bytes: &[u8],
@@ -273,29 +240,30 @@ pub extern "C" fn holdlist_file_read(
     ensures { λ r. ⌜ now (settings .exit) ≡ settingsOut (readFile (now (bytes .entry)) (now (table .entry)) .answer) (now (settings .entry)) ⌝ }
 {
     match holdfile::read(bytes, table) {
-        ReadAnswer::Read(s) => {
-            let all = [s.rule, s.width, s.buckets, s.mask];
-            *settings = all;
-            0
-        }
+        ReadAnswer::Read(s) => hand_out(s, settings),
         ReadAnswer::Refused(n) => refused(n),
+    }
+}
+
+// The settings that a hold file names, to settings, for a caller that has to lend a table of their size. 0.
+#[no_mangle]
+pub extern "C" fn holdlist_file_settings(bytes: &[u8], settings: &mut [u32; 4]) -> i64
+    ensures { λ r. ⌜ r ≡ signed noNumber (headerAnswer (now (bytes .entry))) ⌝ }
+    ensures { λ r. ⌜ now (settings .exit) ≡ settingsOut (headerAnswer (now (bytes .entry))) (now (settings .entry)) ⌝ }
+{
+    match holdfile::settings_of(bytes) {
+        ReadAnswer::Read(s) => hand_out(s, settings),
+        ReadAnswer::Refused(k) => refused(k),
     }
 }
 
 // The packed form of the table, to out, and how many bytes it takes. Later bytes of out stay as they are.
 #[no_mangle]
-pub extern "C" fn holdlist_packed_write(
-    rule: u32,
-    width: u32,
-    buckets: u32,
-    mask: u32,
-    table: &[u16],
-    out: &mut [u8],
-) -> i64
-    ensures { λ r. ⌜ r ≡ signed itself (writePacked (settingsOf rule width buckets mask) (now (table .entry)) (now (out .entry)) .answer) ⌝ }
-    ensures { λ r. ⌜ now (out .exit) ≡ writePacked (settingsOf rule width buckets mask) (now (table .entry)) (now (out .entry)) .leaves ⌝ }
+pub extern "C" fn holdlist_packed_write(settings: &[u32; 4], table: &[u16], out: &mut [u8]) -> i64
+    ensures { λ r. ⌜ r ≡ signed itself (writePacked (settingsAt (now (settings .entry))) (now (table .entry)) (now (out .entry)) .answer) ⌝ }
+    ensures { λ r. ⌜ now (out .exit) ≡ writePacked (settingsAt (now (settings .entry))) (now (table .entry)) (now (out .entry)) .leaves ⌝ }
 {
-    let s = settings(rule, width, buckets, mask);
+    let s = lent_settings(settings);
     match packed::write(s, table, out) {
         PackAnswer::Packed(n) => given_count(n),
         PackAnswer::Refused(n) => refused(n),
@@ -304,18 +272,11 @@ pub extern "C" fn holdlist_packed_write(
 
 // A packed form read: its cells to the table, and how many of them are filled.
 #[no_mangle]
-pub extern "C" fn holdlist_packed_read(
-    rule: u32,
-    width: u32,
-    buckets: u32,
-    mask: u32,
-    bytes: &[u8],
-    table: &mut [u16],
-) -> i64
-    ensures { λ r. ⌜ r ≡ signed itself (readPacked (settingsOf rule width buckets mask) (now (bytes .entry)) (now (table .entry)) .answer) ⌝ }
-    ensures { λ r. ⌜ now (table .exit) ≡ readPacked (settingsOf rule width buckets mask) (now (bytes .entry)) (now (table .entry)) .leaves ⌝ }
+pub extern "C" fn holdlist_packed_read(settings: &[u32; 4], bytes: &[u8], table: &mut [u16]) -> i64
+    ensures { λ r. ⌜ r ≡ signed itself (readPacked (settingsAt (now (settings .entry))) (now (bytes .entry)) (now (table .entry)) .answer) ⌝ }
+    ensures { λ r. ⌜ now (table .exit) ≡ readPacked (settingsAt (now (settings .entry))) (now (bytes .entry)) (now (table .entry)) .leaves ⌝ }
 {
-    let s = settings(rule, width, buckets, mask);
+    let s = lent_settings(settings);
     match packed::read(s, bytes, table) {
         UnpackAnswer::Unpacked(n) => given_count(n),
         UnpackAnswer::Refused(n) => refused(n),

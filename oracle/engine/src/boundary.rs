@@ -3,22 +3,43 @@
 use oracle::index::Settings;
 use std::ptr;
 
+/// Settings as C's struct has them.
+#[repr(C)]
+struct Lent {
+    rule: u32,
+    width: u32,
+    buckets: u32,
+    mask: u32,
+}
+
+impl Lent {
+    fn of(s: Settings) -> Self {
+        Lent {
+            rule: s.rule,
+            width: s.width,
+            buckets: s.buckets,
+            mask: s.mask,
+        }
+    }
+}
+
 #[rustfmt::skip]
 extern "C" {
-    fn holdlist_settings_check(rule: u32, width: u32, buckets: u32, mask: u32) -> i64;
-    fn holdlist_fingerprint(rule: u32, width: u32, buckets: u32, mask: u32, tag: *const u8, length: usize) -> i64;
-    fn holdlist_home(rule: u32, width: u32, buckets: u32, mask: u32, tag: *const u8, length: usize) -> i64;
-    fn holdlist_offset(rule: u32, width: u32, buckets: u32, mask: u32, fingerprint: u16) -> i64;
-    fn holdlist_candidates(rule: u32, width: u32, buckets: u32, mask: u32, fingerprint: u16, bucket: u32, out: *mut u32) -> i64;
-    fn holdlist_clear(rule: u32, width: u32, buckets: u32, mask: u32, table: *mut u16, cells: usize) -> i64;
-    fn holdlist_lookup(rule: u32, width: u32, buckets: u32, mask: u32, table: *const u16, cells: usize, tag: *const u8, length: usize) -> i64;
-    fn holdlist_release(rule: u32, width: u32, buckets: u32, mask: u32, table: *mut u16, cells: usize, tag: *const u8, length: usize) -> i64;
-    fn holdlist_hold(rule: u32, width: u32, buckets: u32, mask: u32, table: *mut u16, cells: usize, scratch: *mut u32, words: usize, tag: *const u8, length: usize) -> i64;
-    fn holdlist_view_check(rule: u32, width: u32, buckets: u32, mask: u32, table: *const u16, cells: usize, bucket: u32) -> i64;
-    fn holdlist_file_write(rule: u32, width: u32, buckets: u32, mask: u32, table: *const u16, cells: usize, out: *mut u8, room: usize) -> i64;
-    fn holdlist_file_read(bytes: *const u8, length: usize, table: *mut u16, cells: usize, settings: *mut u32) -> i64;
-    fn holdlist_packed_write(rule: u32, width: u32, buckets: u32, mask: u32, table: *const u16, cells: usize, out: *mut u8, room: usize) -> i64;
-    fn holdlist_packed_read(rule: u32, width: u32, buckets: u32, mask: u32, bytes: *const u8, length: usize, table: *mut u16, cells: usize) -> i64;
+    fn holdlist_settings_check(settings: *const Lent) -> i64;
+    fn holdlist_fingerprint(settings: *const Lent, tag: *const u8, length: usize) -> i64;
+    fn holdlist_home(settings: *const Lent, tag: *const u8, length: usize) -> i64;
+    fn holdlist_offset(settings: *const Lent, fingerprint: u16) -> i64;
+    fn holdlist_candidates(settings: *const Lent, fingerprint: u16, bucket: u32, out: *mut u32) -> i64;
+    fn holdlist_clear(settings: *const Lent, table: *mut u16, cells: usize) -> i64;
+    fn holdlist_lookup(settings: *const Lent, table: *const u16, cells: usize, tag: *const u8, length: usize) -> i64;
+    fn holdlist_release(settings: *const Lent, table: *mut u16, cells: usize, tag: *const u8, length: usize) -> i64;
+    fn holdlist_hold(settings: *const Lent, table: *mut u16, cells: usize, scratch: *mut u32, words: usize, tag: *const u8, length: usize) -> i64;
+    fn holdlist_view_check(settings: *const Lent, table: *const u16, cells: usize, bucket: u32) -> i64;
+    fn holdlist_file_write(settings: *const Lent, table: *const u16, cells: usize, out: *mut u8, room: usize) -> i64;
+    fn holdlist_file_settings(bytes: *const u8, length: usize, settings: *mut Lent) -> i64;
+    fn holdlist_file_read(bytes: *const u8, length: usize, table: *mut u16, cells: usize, settings: *mut Lent) -> i64;
+    fn holdlist_packed_write(settings: *const Lent, table: *const u16, cells: usize, out: *mut u8, room: usize) -> i64;
+    fn holdlist_packed_read(settings: *const Lent, bytes: *const u8, length: usize, table: *mut u16, cells: usize) -> i64;
 }
 
 /// The engine. It is lent an empty buffer as null or by its place.
@@ -45,40 +66,37 @@ impl Engine {
     }
 
     pub fn settings_check(self, s: Settings) -> i64 {
-        unsafe { holdlist_settings_check(s.rule, s.width, s.buckets, s.mask) }
+        unsafe { holdlist_settings_check(&Lent::of(s)) }
     }
 
     pub fn fingerprint(self, s: Settings, tag: &[u8]) -> i64 {
         let place = self.place(tag);
-        unsafe { holdlist_fingerprint(s.rule, s.width, s.buckets, s.mask, place, tag.len()) }
+        unsafe { holdlist_fingerprint(&Lent::of(s), place, tag.len()) }
     }
 
     pub fn home(self, s: Settings, tag: &[u8]) -> i64 {
         let place = self.place(tag);
-        unsafe { holdlist_home(s.rule, s.width, s.buckets, s.mask, place, tag.len()) }
+        unsafe { holdlist_home(&Lent::of(s), place, tag.len()) }
     }
 
     pub fn offset(self, s: Settings, value: u16) -> i64 {
-        unsafe { holdlist_offset(s.rule, s.width, s.buckets, s.mask, value) }
+        unsafe { holdlist_offset(&Lent::of(s), value) }
     }
 
     pub fn candidates(self, s: Settings, value: u16, bucket: u32, out: &mut [u32; 4]) -> i64 {
         let place = out.as_mut_ptr();
-        unsafe { holdlist_candidates(s.rule, s.width, s.buckets, s.mask, value, bucket, place) }
+        unsafe { holdlist_candidates(&Lent::of(s), value, bucket, place) }
     }
 
     pub fn clear(self, s: Settings, table: &mut [u16]) -> i64 {
         let place = self.place_mut(table);
-        unsafe { holdlist_clear(s.rule, s.width, s.buckets, s.mask, place, table.len()) }
+        unsafe { holdlist_clear(&Lent::of(s), place, table.len()) }
     }
 
     pub fn lookup(self, s: Settings, table: &[u16], tag: &[u8]) -> i64 {
         unsafe {
             holdlist_lookup(
-                s.rule,
-                s.width,
-                s.buckets,
-                s.mask,
+                &Lent::of(s),
                 self.place(table),
                 table.len(),
                 self.place(tag),
@@ -90,10 +108,7 @@ impl Engine {
     pub fn release(self, s: Settings, table: &mut [u16], tag: &[u8]) -> i64 {
         unsafe {
             holdlist_release(
-                s.rule,
-                s.width,
-                s.buckets,
-                s.mask,
+                &Lent::of(s),
                 self.place_mut(table),
                 table.len(),
                 self.place(tag),
@@ -105,10 +120,7 @@ impl Engine {
     pub fn hold(self, s: Settings, table: &mut [u16], scratch: &mut [u32], tag: &[u8]) -> i64 {
         unsafe {
             holdlist_hold(
-                s.rule,
-                s.width,
-                s.buckets,
-                s.mask,
+                &Lent::of(s),
                 self.place_mut(table),
                 table.len(),
                 self.place_mut(scratch),
@@ -120,32 +132,24 @@ impl Engine {
     }
 
     pub fn view_check(self, s: Settings, table: &[u16], bucket: u32) -> i64 {
-        unsafe {
-            holdlist_view_check(
-                s.rule,
-                s.width,
-                s.buckets,
-                s.mask,
-                self.place(table),
-                table.len(),
-                bucket,
-            )
-        }
+        unsafe { holdlist_view_check(&Lent::of(s), self.place(table), table.len(), bucket) }
     }
 
     pub fn file_write(self, s: Settings, table: &[u16], out: &mut [u8]) -> i64 {
         unsafe {
             holdlist_file_write(
-                s.rule,
-                s.width,
-                s.buckets,
-                s.mask,
+                &Lent::of(s),
                 self.place(table),
                 table.len(),
                 self.place_mut(out),
                 out.len(),
             )
         }
+    }
+
+    pub fn file_settings(self, bytes: &[u8], settings: &mut [u32; 4]) -> i64 {
+        let out = settings.as_mut_ptr().cast();
+        unsafe { holdlist_file_settings(self.place(bytes), bytes.len(), out) }
     }
 
     pub fn file_read(self, bytes: &[u8], table: &mut [u16], settings: &mut [u32; 4]) -> i64 {
@@ -155,7 +159,7 @@ impl Engine {
                 bytes.len(),
                 self.place_mut(table),
                 table.len(),
-                settings.as_mut_ptr(),
+                settings.as_mut_ptr().cast(),
             )
         }
     }
@@ -163,10 +167,7 @@ impl Engine {
     pub fn packed_write(self, s: Settings, table: &[u16], out: &mut [u8]) -> i64 {
         unsafe {
             holdlist_packed_write(
-                s.rule,
-                s.width,
-                s.buckets,
-                s.mask,
+                &Lent::of(s),
                 self.place(table),
                 table.len(),
                 self.place_mut(out),
@@ -178,10 +179,7 @@ impl Engine {
     pub fn packed_read(self, s: Settings, bytes: &[u8], table: &mut [u16]) -> i64 {
         unsafe {
             holdlist_packed_read(
-                s.rule,
-                s.width,
-                s.buckets,
-                s.mask,
+                &Lent::of(s),
                 self.place(bytes),
                 bytes.len(),
                 self.place_mut(table),

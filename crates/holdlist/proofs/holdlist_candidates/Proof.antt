@@ -1,24 +1,22 @@
 use borrow.Author.Needs.{needs}
-use mathlib.Core.Path.{_∙_, ap}
+use mathlib.Core.Path.{_∙_, ap, subst, sym}
 use Rattle.index.specs.declared.Settings.{Settings}
 use Prim.Native.Nat.{ℕ}
 use mathlib.Core.List.{List}
 use lib.ListN.{length}
-use mathlib.Core.Path.{subst, sym}
 use Rattle.refusals.specs.Outcomes.{Answer}
 use Rattle.index.specs.Answers.{candidatesAnswer, Lists}
 use Rattle.holdlist.proofs.Crossing.{crosses, list-refused, list-given}
-use Rattle.holdlist.specs.Numbers.{signed}
+use Rattle.holdlist.specs.Numbers.{signed, settingsAt}
 use Rattle.holdlist.specs.Calls.{candidatesOut}
-use Rattle.holdlist.specs.Numbers.{settingsOf}
 use Rattle.holdlist.proofs.holdlist_candidates.Statement.{statement}
 use Rattle.holdlist.proofs.holdlist_candidates.Tie as tie
 
 lists : (c : tie.After-candidates) → let a = c .before .before .args in
-    Lists (c .candidates .result) (candidatesAnswer (settingsOf (a .rule) (a .width) (a .buckets) (a .mask)) (a .fingerprint) (a .bucket))
+    Lists (c .candidates .result) (candidatesAnswer (settingsAt (a .settings .now)) (a .fingerprint) (a .bucket))
 lists c =
     let a = c .before .before .args in
-    subst (λ (x : Settings). Lists (c .candidates .result) (candidatesAnswer x (a .fingerprint) (a .bucket))) (c .before .settings .ensures) (c .candidates .ensures)
+    subst (λ (x : Settings). Lists (c .candidates .result) (candidatesAnswer x (a .fingerprint) (a .bucket))) (c .before .lent-settings .ensures) (c .candidates .ensures)
 
 returns : tie.Need-returns
 returns c =

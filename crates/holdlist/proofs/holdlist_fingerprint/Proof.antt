@@ -1,5 +1,6 @@
 use borrow.Author.Needs.{needs}
 use mathlib.Core.Path.{_∙_, ap}
+use lib.IntN.{pos}
 use Rattle.index.specs.declared.Settings.{Settings}
 use Rattle.index.specs.Answers.{tagEntryIs, entryOf}
 use Rattle.holdlist.proofs.Crossing.{crosses, answered}
@@ -9,11 +10,11 @@ use Rattle.holdlist.proofs.holdlist_fingerprint.Tie as tie
 
 returns : tie.Need-returns
 returns c =
-    let k = c .before .before in
+    let k = c .before .before .before in
     let d = k .before .before in
     let s = d .before in
-    crosses (c .given .ok) (c .given .ensures ∙ answered printOf tagEntryIs (k .p .given .1) (d .entry-of .ensures)
-    (ap (λ (x : Settings). entryOf x (s .before .before .args .tag .now)) (s .settings .ensures)))
+    crosses (c .given .ok) (c .given .ensures ∙ ap pos (c .before .wide .ensures) ∙ answered printOf tagEntryIs (k .p .given .1) (d .entry-of .ensures)
+    (ap (λ (x : Settings). entryOf x (s .before .before .args .tag .now)) (s .lent-settings .ensures)))
 
 returns-2 : tie.Need-returns-2
 returns-2 c =
@@ -21,7 +22,7 @@ returns-2 c =
     let d = k .before .before in
     let s = d .before in
     crosses (c .refused .ok) (c .refused .ensures ∙ answered printOf tagEntryIs (k .n .given .1) (d .entry-of .ensures)
-    (ap (λ (x : Settings). entryOf x (s .before .before .args .tag .now)) (s .settings .ensures)))
+    (ap (λ (x : Settings). entryOf x (s .before .before .args .tag .now)) (s .lent-settings .ensures)))
 
 pub holdlist-fingerprint-spec : {M : Type 1} → statement M
 holdlist-fingerprint-spec =
@@ -30,7 +31,7 @@ holdlist-fingerprint-spec =
     (λ c κs. search needs)
     (λ c κs. search needs)
     (λ c. search needs)
-    (λ c. search needs)
+    (λ c κs. search needs)
     (λ c κs. search needs)
     (λ c. search needs)
     (λ c κs. search needs)

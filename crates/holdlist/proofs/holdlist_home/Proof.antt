@@ -13,7 +13,7 @@ returns c =
     let d = k .before .before in
     let s = d .before in
     crosses (c .given .ok) (c .given .ensures ∙ answered homeOf tagEntryIs (k .home .given .1) (d .entry-of .ensures)
-    (ap (λ (x : Settings). entryOf x (s .before .before .args .tag .now)) (s .settings .ensures)))
+    (ap (λ (x : Settings). entryOf x (s .before .before .args .tag .now)) (s .lent-settings .ensures)))
 
 returns-2 : tie.Need-returns-2
 returns-2 c =
@@ -21,7 +21,7 @@ returns-2 c =
     let d = k .before .before in
     let s = d .before in
     crosses (c .refused .ok) (c .refused .ensures ∙ answered homeOf tagEntryIs (k .n .given .1) (d .entry-of .ensures)
-    (ap (λ (x : Settings). entryOf x (s .before .before .args .tag .now)) (s .settings .ensures)))
+    (ap (λ (x : Settings). entryOf x (s .before .before .args .tag .now)) (s .lent-settings .ensures)))
 
 pub holdlist-home-spec : {M : Type 1} → statement M
 holdlist-home-spec =

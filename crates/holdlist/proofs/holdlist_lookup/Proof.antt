@@ -5,18 +5,18 @@ use Rattle.table.specs.Answers.{lookupIs}
 use Rattle.table.specs.declared.LookupAnswer.{LookupAnswer}
 use Rattle.calls.specs.Calls.{lookup}
 use Rattle.holdlist.proofs.Crossing.{crosses, Told, told}
-use Rattle.holdlist.specs.Numbers.{settingsOf, saidNumber}
+use Rattle.holdlist.specs.Numbers.{settingsAt, saidNumber}
 use Rattle.holdlist.proofs.holdlist_lookup.Statement.{statement}
 use Rattle.holdlist.proofs.holdlist_lookup.Tie as tie
 
 -- what the call does, under the settings that were lent
 does : (c : tie.After-lookup) {r : LookupAnswer} → c .lookup .result ≡ r → let a = c .before .before .before .before .args in
-    Told saidNumber (lookupIs r) (a .table .now) (lookup (settingsOf (a .rule) (a .width) (a .buckets) (a .mask)) (a .table .now) (a .tag .now))
+    Told saidNumber (lookupIs r) (a .table .now) (lookup (settingsAt (a .settings .now)) (a .table .now) (a .tag .now))
 does c q =
     let s = c .before in
     let a = s .before .before .before .args in
     told saidNumber lookupIs q (c .lookup .ensures)
-    (ap (λ (x : Settings). lookup x (a .table .now) (a .tag .now)) (s .settings .ensures))
+    (ap (λ (x : Settings). lookup x (a .table .now) (a .tag .now)) (s .lent-settings .ensures))
 
 returns : tie.Need-returns
 returns c = does (c .before .before) (c .enum-told .given .1) .number

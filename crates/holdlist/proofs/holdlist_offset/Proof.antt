@@ -13,7 +13,7 @@ returns c =
     let d = k .before .before in
     let s = d .before in
     crosses (c .given .ok) (c .given .ensures ∙ answered itself offsetIs (k .d .given .1) (d .offset .ensures)
-    (ap (λ (x : Settings). offsetAnswer x (s .before .args .fingerprint)) (s .settings .ensures)))
+    (ap (λ (x : Settings). offsetAnswer x (s .before .args .fingerprint)) (s .lent-settings .ensures)))
 
 returns-2 : tie.Need-returns-2
 returns-2 c =
@@ -21,7 +21,7 @@ returns-2 c =
     let d = k .before .before in
     let s = d .before in
     crosses (c .refused .ok) (c .refused .ensures ∙ answered itself offsetIs (k .n .given .1) (d .offset .ensures)
-    (ap (λ (x : Settings). offsetAnswer x (s .before .args .fingerprint)) (s .settings .ensures)))
+    (ap (λ (x : Settings). offsetAnswer x (s .before .args .fingerprint)) (s .lent-settings .ensures)))
 
 pub holdlist-offset-spec : {M : Type 1} → statement M
 holdlist-offset-spec =

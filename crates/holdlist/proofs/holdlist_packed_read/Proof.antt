@@ -1,32 +1,29 @@
 use borrow.Author.Needs.{needs}
-use mathlib.Core.Path.{_≡_, _∙_, ap}
+use mathlib.Core.Path.{_≡_, refl, _∙_, ap}
 use Rattle.index.specs.declared.Settings.{Settings}
 use Rattle.packed.specs.Answers.{unpackIs}
 use Rattle.packed.specs.declared.UnpackAnswer.{UnpackAnswer}
 use Rattle.packed_form.specs.Reader.{readPacked}
 use native.Mathlib.Omega.{arith}
-use mathlib.Core.Path.{sym}
-use Rattle.refusals.specs.Outcomes.{outcome}
-use Rattle.holdlist.proofs.Counts.{unpacked-below}
+use Rattle.holdlist.proofs.Counts.{unpacked-counts, fits}
 use Rattle.holdlist.proofs.Crossing.{crosses, Told, told}
-use Rattle.holdlist.specs.Numbers.{settingsOf, itself}
+use Rattle.holdlist.specs.Numbers.{settingsAt, itself}
 use Rattle.holdlist.proofs.holdlist_packed_read.Statement.{statement}
 use Rattle.holdlist.proofs.holdlist_packed_read.Tie as tie
 
 -- what the call does, under the settings that were lent
 does : (c : tie.After-read) {r : UnpackAnswer} → c .read .result ≡ r → let a = c .before .before .before .before .before .args in
-    Told itself (unpackIs r) (c .read .last .1 .1 .0) (readPacked (settingsOf (a .rule) (a .width) (a .buckets) (a .mask)) (a .bytes .now) (a .table .now))
+    Told itself (unpackIs r) (c .read .last .1 .1 .0) (readPacked (settingsAt (a .settings .now)) (a .bytes .now) (a .table .now))
 does c q =
     let s = c .before .before in
     let a = s .before .before .before .args in
     told itself unpackIs q (c .read .ensures)
-    (ap (λ (x : Settings). readPacked x (a .bytes .now) (a .table .now)) (s .settings .ensures))
+    (ap (λ (x : Settings). readPacked x (a .bytes .now) (a .table .now)) (s .lent-settings .ensures))
 
 given-count-requires : tie.Need-given-count-requires
 given-count-requires c κs =
     let d = c .before .before .before .before .before in
-    let e = sym (ap (λ r. outcome (unpackIs r) (d .read .last .1 .1 .0)) (c .before .n .given .1)) ∙ d .read .ensures in
-    omega (arith, unpacked-below _ _ _ e, d .read .kept .1 .1 .0, d .before .before .before .before .before .good)
+    fits unpackIs (d .read .ensures) (unpacked-counts _ _ _) (c .before .n .given .1) refl (omega (arith, d .read .kept .1 .1 .0, d .before .before .before .before .before .good))
 
 returns : tie.Need-returns
 returns c = let t = does (c .before .before .before .before .before .before) (c .before .before .n .given .1) in (crosses (c .given-count .ok) (c .given-count .ensures ∙ t .number), t .leaves)

@@ -1,32 +1,29 @@
 use borrow.Author.Needs.{needs}
-use mathlib.Core.Path.{_≡_, _∙_, ap}
+use mathlib.Core.Path.{_≡_, refl, _∙_, ap}
 use Rattle.index.specs.declared.Settings.{Settings}
 use Rattle.packed.specs.Answers.{packIs}
 use Rattle.packed.specs.declared.PackAnswer.{PackAnswer}
 use Rattle.packed_form.specs.Writer.{writePacked}
 use native.Mathlib.Omega.{arith}
-use mathlib.Core.Path.{sym}
-use Rattle.refusals.specs.Outcomes.{outcome}
-use Rattle.holdlist.proofs.Counts.{packed-below}
+use Rattle.holdlist.proofs.Counts.{packed-counts, fits}
 use Rattle.holdlist.proofs.Crossing.{crosses, Told, told}
-use Rattle.holdlist.specs.Numbers.{settingsOf, itself}
+use Rattle.holdlist.specs.Numbers.{settingsAt, itself}
 use Rattle.holdlist.proofs.holdlist_packed_write.Statement.{statement}
 use Rattle.holdlist.proofs.holdlist_packed_write.Tie as tie
 
 -- what the call does, under the settings that were lent
 does : (c : tie.After-write) {r : PackAnswer} → c .write .result ≡ r → let a = c .before .before .before .before .before .args in
-    Told itself (packIs r) (c .write .last .1 .1 .0) (writePacked (settingsOf (a .rule) (a .width) (a .buckets) (a .mask)) (a .table .now) (a .out .now))
+    Told itself (packIs r) (c .write .last .1 .1 .0) (writePacked (settingsAt (a .settings .now)) (a .table .now) (a .out .now))
 does c q =
     let s = c .before .before in
     let a = s .before .before .before .args in
     told itself packIs q (c .write .ensures)
-    (ap (λ (x : Settings). writePacked x (a .table .now) (a .out .now)) (s .settings .ensures))
+    (ap (λ (x : Settings). writePacked x (a .table .now) (a .out .now)) (s .lent-settings .ensures))
 
 given-count-requires : tie.Need-given-count-requires
 given-count-requires c κs =
     let d = c .before .before .before .before .before in
-    let e = sym (ap (λ r. outcome (packIs r) (d .write .last .1 .1 .0)) (c .before .n .given .1)) ∙ d .write .ensures in
-    omega (arith, packed-below _ _ _ e, d .write .kept .1 .1 .0, d .before .before .before .before .before .good)
+    fits packIs (d .write .ensures) (packed-counts _ _ _) (c .before .n .given .1) refl (omega (arith, d .write .kept .1 .1 .0, d .before .before .before .before .before .good))
 
 returns : tie.Need-returns
 returns c = let t = does (c .before .before .before .before .before .before) (c .before .before .n .given .1) in (crosses (c .given-count .ok) (c .given-count .ensures ∙ t .number), t .leaves)

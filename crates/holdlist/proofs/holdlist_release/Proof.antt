@@ -5,18 +5,18 @@ use Rattle.table.specs.Answers.{releaseIs}
 use Rattle.table.specs.declared.ReleaseAnswer.{ReleaseAnswer}
 use Rattle.calls.specs.Calls.{release}
 use Rattle.holdlist.proofs.Crossing.{crosses, Told, told}
-use Rattle.holdlist.specs.Numbers.{settingsOf, saidNumber}
+use Rattle.holdlist.specs.Numbers.{settingsAt, saidNumber}
 use Rattle.holdlist.proofs.holdlist_release.Statement.{statement}
 use Rattle.holdlist.proofs.holdlist_release.Tie as tie
 
 -- what the call does, under the settings that were lent
 does : (c : tie.After-release) {r : ReleaseAnswer} → c .release .result ≡ r → let a = c .before .before .before .before .before .args in
-    Told saidNumber (releaseIs r) (c .release .last .1 .0) (release (settingsOf (a .rule) (a .width) (a .buckets) (a .mask)) (a .table .now) (a .tag .now))
+    Told saidNumber (releaseIs r) (c .release .last .1 .0) (release (settingsAt (a .settings .now)) (a .table .now) (a .tag .now))
 does c q =
     let s = c .before .before in
     let a = s .before .before .before .args in
     told saidNumber releaseIs q (c .release .ensures)
-    (ap (λ (x : Settings). release x (a .table .now) (a .tag .now)) (s .settings .ensures))
+    (ap (λ (x : Settings). release x (a .table .now) (a .tag .now)) (s .lent-settings .ensures))
 
 returns : tie.Need-returns
 returns c = let t = does (c .before .before .before .before) (c .enum-told .given .1) in (t .number, t .leaves)

@@ -5,7 +5,7 @@ use Rattle.holdlist.proofs.holdlist_settings_check.Statement.{statement
 use Rattle.holdlist.proofs.holdlist_settings_check.Tie as tie
 
 returns : tie.Need-returns
-returns c = let d = c .before in crosses (c .refused .ok) (c .refused .ensures ∙ settings-crosses (d .before .settings .ensures) (d .refusal .ensures))
+returns c = let d = c .before in crosses (c .refused .ok) (c .refused .ensures ∙ settings-crosses (d .before .lent-settings .ensures) (d .refusal .ensures))
 
 pub holdlist-settings-check-spec : {M : Type 1} → statement M
 holdlist-settings-check-spec =

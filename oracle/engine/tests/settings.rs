@@ -1,0 +1,214 @@
+//! The settings that a hold file names, from its header alone, held to a reader of headers that is written here from
+//! docs/FORMATS.md. After every call the settings that were lent are compared, with what stands around them.
+
+use engine::boundary::Engine;
+use engine::make::{long, one_of};
+use engine::pair::Pair;
+use oracle::index::{Answer, Settings};
+use oracle::requests::Mix;
+use std::io::{self, Write};
+
+/// Rule, width, bucket count less 1 and mask: the bytes that each takes, and its default.
+const SIZES: [usize; 4] = [1, 1, 2, 2];
+const DEFAULTS: [u32; 4] = [0, 12, 4_095, 0];
+
+fn stands(map: u8, field: usize) -> bool {
+    map >> field & 1 == 1
+}
+
+/// What a header names, or its refusal.
+fn header(bytes: &[u8]) -> Answer<Settings> {
+    let (&map, mut rest) = bytes.split_first().ok_or(11u32)?;
+    if map > 15 {
+        return Err(12);
+    }
+    let mut values = DEFAULTS;
+    for (field, &size) in SIZES.iter().enumerate() {
+        if stands(map, field) {
+            let low_first = rest.get(..size).ok_or(11u32)?;
+            values[field] = low_first
+                .iter()
+                .rev()
+                .fold(0, |v, &b| 256 * v + u32::from(b));
+            rest = &rest[size..];
+        }
+    }
+    let [rule, width, less, mask] = values;
+    if (0..3).any(|field| stands(map, field) && values[field] == DEFAULTS[field]) {
+        return Err(12);
+    }
+    if stands(map, 3) != (rule == 2) {
+        return Err(12);
+    }
+    let settings = Settings::new(rule, width, less + 1, mask);
+    settings.check()?;
+    Ok(settings)
+}
+
+/// The bytes of a map and of the fields that stand in it.
+fn spelled(map: u8, values: [u32; 4]) -> Vec<u8> {
+    let mut bytes = vec![map];
+    for field in (0..4).filter(|&field| stands(map, field)) {
+        bytes.extend(&values[field].to_le_bytes()[..SIZES[field]]);
+    }
+    bytes
+}
+
+/// The engine, and how many calls of it there were, by their answer.
+struct Held {
+    mix: Mix,
+    answers: [u64; 21],
+}
+
+impl Held {
+    fn new(name: &str) -> Self {
+        Held {
+            mix: Pair::new(name).mix,
+            answers: [0; 21],
+        }
+    }
+
+    /// The first bytes of a buffer, whose others are not the call's.
+    fn named(&mut self, buffer: &[u8], count: usize) -> i64 {
+        let bytes = &buffer[..count];
+        let engine = Engine {
+            null: self.mix.below(2) == 0,
+        };
+        let before: [u32; 12] = std::array::from_fn(|_| self.mix.draw() as u32);
+        let (mut found, mut expected) = (before, before);
+        let answer = match header(bytes) {
+            Ok(s) => {
+                expected[4..8].copy_from_slice(&[s.rule, s.width, s.buckets, s.mask]);
+                0
+            }
+            Err(number) => -i64::from(number),
+        };
+        let lent = (&mut found[4..8]).try_into().expect("four are lent");
+        assert_eq!(engine.file_settings(bytes, lent), answer, "{bytes:02x?}");
+        assert_eq!(found, expected, "{bytes:02x?}");
+        // A header that is refused refuses the reading, whatever table is lent.
+        if answer < 0 {
+            let lent = (&mut found[4..8]).try_into().expect("four are lent");
+            let mut table = [0x5a5a; 4];
+            let cells = 4 * self.mix.below(2) as usize;
+            let read = engine.file_read(bytes, &mut table[..cells], lent);
+            assert_eq!((read, table), (answer, [0x5a5a; 4]), "{bytes:02x?}");
+            assert_eq!(found, before, "{bytes:02x?}");
+        }
+        self.answers[-answer as usize] += 1;
+        answer
+    }
+
+    /// Says how many calls there were, and makes sure that all answers were among them.
+    fn done(self, name: &str) {
+        let calls = self.answers.iter().sum::<u64>();
+        // Past the capture of a test that passes; a line that cannot be written is no fault of the engine.
+        let _ = writeln!(io::stderr(), "{name}: {calls} calls");
+        for answer in [0, 1, 2, 3, 4, 11, 12] {
+            assert!(self.answers[answer] > 0, "no call answered {answer}");
+        }
+    }
+}
+
+/// Values of each field, good and bad, the default among them.
+const VALUES: [&[u32]; 4] = [
+    &[0, 1, 2, 3, 255],
+    &[0, 3, 4, 11, 12, 13, 16, 17, 255],
+    &[0, 1, 2, 5, 7, 4_094, 4_095, 4_096, 65_533, 65_534, 65_535],
+    &[0, 1, 5, 4_095, 4_096, 65_535],
+];
+
+/// Every map with these values of the fields that stand in it, and every truncation.
+#[test]
+fn maps_and_truncations() {
+    let mut held = Held::new("headers of every map");
+    for map in 0..=255 {
+        let of = |field: usize| match stands(map, field) {
+            true => VALUES[field],
+            false => &DEFAULTS[field..field + 1],
+        };
+        for &rule in of(0) {
+            for &width in of(1) {
+                for &less in of(2) {
+                    for &mask in of(3) {
+                        let mut bytes = spelled(map, [rule, width, less, mask]);
+                        let length = bytes.len();
+                        bytes.extend(held.mix.bytes(3));
+                        // What follows the header is not looked at.
+                        let whole = held.named(&bytes, length);
+                        assert_eq!(held.named(&bytes, length + 3), whole);
+                        if map > 15 {
+                            break;
+                        }
+                        for count in 1..length {
+                            assert_eq!(held.named(&bytes, count), -11);
+                        }
+                    }
+                }
+            }
+        }
+    }
+    held.done("headers of every map");
+}
+
+/// Every change of one byte, of good headers and bad.
+#[test]
+fn changed_bytes() {
+    let mut held = Held::new("headers changed");
+    for values in [
+        [0, 12, 4_095, 0],
+        [0, 4, 0, 0],
+        [0, 16, 65_535, 0],
+        [0, 12, 15, 0],
+        [1, 12, 4_095, 0],
+        [1, 5, 5, 0],
+        [1, 16, 65_533, 0],
+        [2, 12, 4_095, 0],
+        [2, 12, 4_095, 4_095],
+        [2, 4, 0, 0],
+        [2, 9, 31, 21],
+        [2, 16, 65_535, 65_535],
+        [3, 3, 2, 65_535],
+        [1, 17, 6, 0],
+        [2, 11, 4_094, 4_095],
+    ] {
+        let map = (0..3).fold(0, |map, field| {
+            map | u8::from(values[field] != DEFAULTS[field]) << field
+        }) | u8::from(values[0] == 2) << 3;
+        let mut bytes = spelled(map, values);
+        let length = bytes.len();
+        bytes.extend(held.mix.bytes(8));
+        for at in 0..length {
+            let kept = bytes[at];
+            for byte in 0..=255 {
+                bytes[at] = byte;
+                // The map may have become one with more fields: those bytes are there, or are not.
+                held.named(&bytes, length);
+                held.named(&bytes, length + 8);
+                held.named(&bytes, at + 1);
+            }
+            bytes[at] = kept;
+        }
+    }
+    held.done("headers changed");
+}
+
+/// Bytes without a pattern, most of them under a map that is good.
+#[test]
+fn random_bytes() {
+    let mut held = Held::new("random headers");
+    for _ in 0..200_000 * long() {
+        let count = held.mix.below(12) as usize;
+        let mut bytes = held.mix.bytes(count);
+        if count > 0 && held.mix.below(8) > 0 {
+            bytes[0] %= 16;
+        }
+        for byte in bytes.iter_mut().skip(1) {
+            if held.mix.below(2) == 0 {
+                *byte = one_of(&mut held.mix, &[0, 1, 2, 3, 4, 12, 15, 16, 255]);
+            }
+        }
+        held.named(&bytes, count);
+    }
+    held.done("random headers");
+}
