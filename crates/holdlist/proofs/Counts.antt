@@ -4,7 +4,8 @@ use mathlib.Core.Path.{_≡_, sym, ap, subst, _∙_}
 use mathlib.Core.Bool.{Bool, true, false, cond}
 use mathlib.Core.Option.{Option, none, some}
 use mathlib.Core.List.{List, [], _∷_, _++_}
-use Prim.Native.Nat.{ℕ, _^_, _≤_, _<_}
+use Prim.Native.Nat.{ℕ, _*_, _^_, _≤_, _<_}
+use native.Mathlib.Nat.{mul-le-mul-left}
 use native.Mathlib.Omega.{arith}
 use lib.Dec.{eqb}
 use lib.ListN.{length, drop, length-append}
@@ -62,9 +63,9 @@ unpacked-counts s bytes c = go (firstMet (tableChecks s c ++ lengthChecks s byte
     go none (refused k) = record { within = tt }
     go none (given k) = record { within = filled-below k }
 
--- ── each of the three, answered as the case r′ of its type, which counts n ──
-pub fits : {R : Type 0} (is : R → Answer ℕ) {r r′ : R} {n : ℕ} {left : List ℕ} {x : Outcome ℕ (List ℕ)} → outcome (is r) left ≡ x → Counts x → r ≡ r′ → is r′ ≡ given n → length left < 2 ^ 63
-    → n < 2 ^ 63
-fits is {n = n} {left = left} e h q g b =
+-- ── each of the three, answered as the case r′ of its type, which counts n, where m elements of a size were lent ──
+pub fits : {R : Type 0} (is : R → Answer ℕ) (size : ℕ) {r r′ : R} {n m : ℕ} {left : List ℕ} {x : Outcome ℕ (List ℕ)} → 1 ≤ size → outcome (is r) left ≡ x → Counts x → r ≡ r′ → is r′ ≡ given n
+    → length left ≡ m → m * size < 2 ^ 63 → n < 2 ^ 63
+fits is size {n = n} {m = m} {left = left} s e h q g k b =
     let w : n ≤ length left = subst (λ (a : Answer ℕ). Within a left) (ap is q ∙ g) (subst Counts (sym e) h .within) in
-    omega arith
+    omega (arith, mul-le-mul-left m s)

@@ -4,7 +4,9 @@ use Rattle.index.specs.declared.Settings.{Settings}
 use Rattle.packed.specs.Answers.{packIs}
 use Rattle.packed.specs.declared.PackAnswer.{PackAnswer}
 use Rattle.packed_form.specs.Writer.{writePacked}
+use Prim.Native.Nat.{_^_, _<_}
 use native.Mathlib.Omega.{arith}
+use lib.Dec.{lit≤}
 use Rattle.holdlist.proofs.Counts.{packed-counts, fits}
 use Rattle.holdlist.proofs.Crossing.{crosses, Told, told}
 use Rattle.holdlist.specs.Numbers.{settingsAt, itself}
@@ -20,10 +22,14 @@ does c q =
     told itself packIs q (c .write .ensures)
     (ap (λ (x : Settings). writePacked x (a .table .now) (a .out .now)) (s .lent-settings .ensures))
 
+-- the count, for which a signed number has room
+small : (c : tie.After-n) → c .n .given .0 .0 < 2 ^ 63
+small c =
+    let d = c .before .before .before .before in
+    fits packIs 1 (lit≤ tt) (d .write .ensures) (packed-counts _ _ _) (c .n .given .1) refl (d .write .kept .1 .1 .0) (d .before .before .before .before .before .good .1 .1 .0 .1)
+
 given-count-requires : tie.Need-given-count-requires
-given-count-requires c κs =
-    let d = c .before .before .before .before .before in
-    fits packIs (d .write .ensures) (packed-counts _ _ _) (c .before .n .given .1) refl (omega (arith, d .write .kept .1 .1 .0, d .before .before .before .before .before .good))
+given-count-requires c κs = omega (arith, small (c .before))
 
 returns : tie.Need-returns
 returns c = let t = does (c .before .before .before .before .before .before) (c .before .before .n .given .1) in (crosses (c .given-count .ok) (c .given-count .ensures ∙ t .number), t .leaves)

@@ -17,11 +17,11 @@ small : (n : ℕ) → n < 2 ^ 63 → SFits w64 (negℤ (pos n))
 small zero h = record { sfits = omega arith }
 small (suc n) h = record { sfits = omega arith }
 
-sub-result : tie.Need-sub-result
-sub-result c = subst (SFits w64) (sym (less c)) (small (c .args .n) (omega arith))
-
 returns : tie.Need-returns
 returns c = ap (λ (z : ℤ). toZ w64 (ofZ w64 z)) (less c) ∙ toZ-ofZ (small (c .args .n) (omega arith))
+
+sub-result : tie.Need-sub-result
+sub-result c = subst (SFits w64) (sym (less c)) (small (c .args .n) (omega arith))
 
 pub refused-spec : {M : Type 1} → statement M
 refused-spec = tie.close (tie.spec (λ c. search needs) sub-result returns)
