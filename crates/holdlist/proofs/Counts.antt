@@ -1,4 +1,5 @@
--- A count that a call answers is at most the length of what it leaves, so that a signed number has room for it.
+-- A count that a call answers is at most the length of what it leaves, so that a signed number has room for it: for the two writers and
+-- the reader of the packed form.
 -- Assumes nothing.
 use mathlib.Core.Path.{_≡_, sym, ap, subst, _∙_}
 use mathlib.Core.Bool.{Bool, true, false, cond}
@@ -19,6 +20,8 @@ use Rattle.calls.specs.WrittenForms.{writeChecks, written}
 use Rattle.file_form.specs.Writer.{fileOf, writeFile}
 use Rattle.packed_form.specs.Writer.{packedOf, writePacked}
 use Rattle.packed_form.specs.Reader.{withCount, unpack, lengthChecks, readPacked}
+use Rattle.holdlist.specs.Numbers.{itself}
+use Rattle.holdlist.proofs.Crossing.{Told, told}
 
 -- what a call answers, if it counts, is within what it leaves
 abbrev Within : Answer ℕ → List ℕ → Type 0
@@ -63,9 +66,17 @@ unpacked-counts s bytes c = go (firstMet (tableChecks s c ++ lengthChecks s byte
     go none (refused k) = record { within = tt }
     go none (given k) = record { within = filled-below k }
 
--- ── each of the three, answered as the case r′ of its type, which counts n, where m elements of a size were lent ──
-pub fits : {R : Type 0} (is : R → Answer ℕ) (size : ℕ) {r r′ : R} {n m : ℕ} {left : List ℕ} {x : Outcome ℕ (List ℕ)} → 1 ≤ size → outcome (is r) left ≡ x → Counts x → r ≡ r′ → is r′ ≡ given n
-    → length left ≡ m → m * size < 2 ^ 63 → n < 2 ^ 63
-fits is size {n = n} {m = m} {left = left} s e h q g k b =
-    let w : n ≤ length left = subst (λ (a : Answer ℕ). Within a left) (ap is q ∙ g) (subst Counts (sym e) h .within) in
-    omega (arith, mul-le-mul-left m s)
+-- ── each of the three, answered as the case r′ of its type, where m elements of a size were lent ──
+-- what crosses the boundary, and that a signed number has room for the count
+pub record Counted (a : Answer ℕ) (left : List ℕ) (x : Outcome ℕ (List ℕ)) : Type 0 where
+  pub tells : Told itself a left x
+  pub room : {n : ℕ} → a ≡ given n → n < 2 ^ 63
+
+pub counted : {R : Type 0} (is : R → Answer ℕ) (size : ℕ) {r r′ : R} {m : ℕ} {left : List ℕ} {x y : Outcome ℕ (List ℕ)} → 1 ≤ size → length left ≡ m → m * size < 2 ^ 63 → r ≡ r′
+    → outcome (is r) left ≡ x → Counts x → x ≡ y → Counted (is r′) left y
+counted is size {r′ = r′} {m = m} {left = left} s k b q e h y = record { tells = told itself is q e y; room = room }
+  where
+    room : {n : ℕ} → is r′ ≡ given n → n < 2 ^ 63
+    room {n} g =
+        let w : n ≤ length left = subst (λ (a : Answer ℕ). Within a left) (ap is q ∙ g) (subst Counts (sym e) h .within) in
+        omega (arith, mul-le-mul-left m s)
