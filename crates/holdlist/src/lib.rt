@@ -1,7 +1,6 @@
 // The filter for C. Each call takes settings, numbers and lent buffers, and its result is one signed number: 0
-// or more is the answer, below 0 is minus the number of a refusal. Settings are lent as four numbers, as which
-// C's struct lies in memory. Nothing is asked of a caller but that its buffers are there, and that one which is
-// written overlaps no other.
+// or more is the answer, below 0 is minus the number of a refusal. Nothing is asked of a caller but that its
+// buffers are there, and that one which is written overlaps no other.
 ghost use mathlib.Core.Path.{_≡_};
 ghost use mathlib.Core.Option.{some};
 ghost use Prim.Native.Nat.{ℕ, _<_, _^_};
@@ -27,6 +26,9 @@ use table::ClearAnswer;
 use table::HoldAnswer;
 use table::LookupAnswer;
 use table::ReleaseAnswer;
+
+// Settings as they are lent: rule, width, bucket count and mask, as C's struct has them in memory.
+type Lent = [u32; 4];
 
 // An answer.
 fn given(n: u32) -> i64
@@ -57,8 +59,8 @@ fn wide(x: u16) -> u32
     x as u32
 }
 
-// The settings that are lent, as the numbers of C's struct in their order: the one place where they are made.
-fn lent_settings(settings: &[u32; 4]) -> Settings
+// The settings that are lent: the one place where they are made.
+fn lent_settings(settings: &Lent) -> Settings
     ensures { λ r. ⌜ r ≡ settingsAt (now (settings .entry)) ⌝ }
 {
     Settings {
@@ -70,7 +72,7 @@ fn lent_settings(settings: &[u32; 4]) -> Settings
 }
 
 // And the one place where they are handed out, with the answer 0.
-fn hand_out(s: Settings, settings: &mut [u32; 4]) -> i64
+fn hand_out(s: Settings, settings: &mut Lent) -> i64
     ensures { λ r. ⌜ (r ≡ pos 0) × (now (settings .exit) ≡ numbersOf s) ⌝ }
 {
     let all = [s.rule, s.width, s.buckets, s.mask];
@@ -80,7 +82,7 @@ fn hand_out(s: Settings, settings: &mut [u32; 4]) -> i64
 
 // 0, or minus the number that refuses the settings.
 #[no_mangle]
-pub extern "C" fn holdlist_settings_check(settings: &[u32; 4]) -> i64
+pub extern "C" fn holdlist_settings_check(settings: &Lent) -> i64
     ensures { λ r. ⌜ r ≡ signed itself (settingsAnswer (settingsAt (now (settings .entry)))) ⌝ }
 {
     let s = lent_settings(settings);
@@ -90,7 +92,7 @@ pub extern "C" fn holdlist_settings_check(settings: &[u32; 4]) -> i64
 
 // The fingerprint of a tag.
 #[no_mangle]
-pub extern "C" fn holdlist_fingerprint(settings: &[u32; 4], tag: &[u8]) -> i64
+pub extern "C" fn holdlist_fingerprint(settings: &Lent, tag: &[u8]) -> i64
     ensures { λ r. ⌜ r ≡ signed printOf (entryOf (settingsAt (now (settings .entry))) (now (tag .entry))) ⌝ }
 {
     let s = lent_settings(settings);
@@ -102,7 +104,7 @@ pub extern "C" fn holdlist_fingerprint(settings: &[u32; 4], tag: &[u8]) -> i64
 
 // The home bucket of a tag.
 #[no_mangle]
-pub extern "C" fn holdlist_home(settings: &[u32; 4], tag: &[u8]) -> i64
+pub extern "C" fn holdlist_home(settings: &Lent, tag: &[u8]) -> i64
     ensures { λ r. ⌜ r ≡ signed homeOf (entryOf (settingsAt (now (settings .entry))) (now (tag .entry))) ⌝ }
 {
     let s = lent_settings(settings);
@@ -114,7 +116,7 @@ pub extern "C" fn holdlist_home(settings: &[u32; 4], tag: &[u8]) -> i64
 
 // The offset of any 16-bit value.
 #[no_mangle]
-pub extern "C" fn holdlist_offset(settings: &[u32; 4], fingerprint: u16) -> i64
+pub extern "C" fn holdlist_offset(settings: &Lent, fingerprint: u16) -> i64
     ensures { λ r. ⌜ r ≡ signed itself (offsetAnswer (settingsAt (now (settings .entry))) fingerprint) ⌝ }
 {
     let s = lent_settings(settings);
@@ -127,7 +129,7 @@ pub extern "C" fn holdlist_offset(settings: &[u32; 4], fingerprint: u16) -> i64
 // The candidates of a fingerprint in a bucket, to out, and how many there are. Places past them are 0.
 #[no_mangle]
 pub extern "C" fn holdlist_candidates(
-    settings: &[u32; 4],
+    settings: &Lent,
     fingerprint: u16,
     bucket: u32,
     out: &mut [u32; 4],
@@ -148,7 +150,7 @@ pub extern "C" fn holdlist_candidates(
 
 // Every cell empty: 0.
 #[no_mangle]
-pub extern "C" fn holdlist_clear(settings: &[u32; 4], table: &mut [u16]) -> i64
+pub extern "C" fn holdlist_clear(settings: &Lent, table: &mut [u16]) -> i64
     ensures { λ r. ⌜ r ≡ signed saidNumber (clearTable (settingsAt (now (settings .entry))) (now (table .entry)) .answer) ⌝ }
     ensures { λ r. ⌜ now (table .exit) ≡ clearTable (settingsAt (now (settings .entry))) (now (table .entry)) .leaves ⌝ }
 {
@@ -161,7 +163,7 @@ pub extern "C" fn holdlist_clear(settings: &[u32; 4], table: &mut [u16]) -> i64
 
 // 1 where the tag is held, 0 where it is clear.
 #[no_mangle]
-pub extern "C" fn holdlist_lookup(settings: &[u32; 4], table: &[u16], tag: &[u8]) -> i64
+pub extern "C" fn holdlist_lookup(settings: &Lent, table: &[u16], tag: &[u8]) -> i64
     ensures { λ r. ⌜ r ≡ signed saidNumber (lookupOf (settingsAt (now (settings .entry))) (now (table .entry)) (now (tag .entry)) .answer) ⌝ }
 {
     let s = lent_settings(settings);
@@ -174,7 +176,7 @@ pub extern "C" fn holdlist_lookup(settings: &[u32; 4], table: &[u16], tag: &[u8]
 
 // 1 where a copy of the tag's fingerprint was taken out, 0 where there is none.
 #[no_mangle]
-pub extern "C" fn holdlist_release(settings: &[u32; 4], table: &mut [u16], tag: &[u8]) -> i64
+pub extern "C" fn holdlist_release(settings: &Lent, table: &mut [u16], tag: &[u8]) -> i64
     ensures { λ r. ⌜ r ≡ signed saidNumber (releaseOf (settingsAt (now (settings .entry))) (now (table .entry)) (now (tag .entry)) .answer) ⌝ }
     ensures { λ r. ⌜ now (table .exit) ≡ releaseOf (settingsAt (now (settings .entry))) (now (table .entry)) (now (tag .entry)) .leaves ⌝ }
 {
@@ -189,7 +191,7 @@ pub extern "C" fn holdlist_release(settings: &[u32; 4], table: &mut [u16], tag: 
 // The number of entries that moved to make room for the tag.
 #[no_mangle]
 pub extern "C" fn holdlist_hold(
-    settings: &[u32; 4],
+    settings: &Lent,
     table: &mut [u16],
     scratch: &mut [u32],
     tag: &[u8],
@@ -207,7 +209,7 @@ pub extern "C" fn holdlist_hold(
 
 // 0 where the bucket can be seen.
 #[no_mangle]
-pub extern "C" fn holdlist_view_check(settings: &[u32; 4], table: &[u16], bucket: u32) -> i64
+pub extern "C" fn holdlist_view_check(settings: &Lent, table: &[u16], bucket: u32) -> i64
     ensures { λ r. ⌜ r ≡ signed itself (viewAnswer (settingsAt (now (settings .entry))) (now (table .entry)) bucket) ⌝ }
 {
     let s = lent_settings(settings);
@@ -217,7 +219,7 @@ pub extern "C" fn holdlist_view_check(settings: &[u32; 4], table: &[u16], bucket
 
 // The hold file of the table, to out, and how many bytes it takes. Later bytes of out stay as they are.
 #[no_mangle]
-pub extern "C" fn holdlist_file_write(settings: &[u32; 4], table: &[u16], out: &mut [u8]) -> i64
+pub extern "C" fn holdlist_file_write(settings: &Lent, table: &[u16], out: &mut [u8]) -> i64
     ensures { λ r. ⌜ r ≡ signed itself (writeFile (settingsAt (now (settings .entry))) (now (table .entry)) (now (out .entry)) .answer) ⌝ }
     ensures { λ r. ⌜ now (out .exit) ≡ writeFile (settingsAt (now (settings .entry))) (now (table .entry)) (now (out .entry)) .leaves ⌝ }
 {
@@ -230,11 +232,7 @@ pub extern "C" fn holdlist_file_write(settings: &[u32; 4], table: &[u16], out: &
 
 // A hold file read: its cells to the table, and its settings to settings. 0.
 #[no_mangle]
-pub extern "C" fn holdlist_file_read(
-    bytes: &[u8],
-    table: &mut [u16],
-    settings: &mut [u32; 4],
-) -> i64
+pub extern "C" fn holdlist_file_read(bytes: &[u8], table: &mut [u16], settings: &mut Lent) -> i64
     ensures { λ r. ⌜ r ≡ signed noNumber (readFile (now (bytes .entry)) (now (table .entry)) .answer) ⌝ }
     ensures { λ r. ⌜ now (table .exit) ≡ readFile (now (bytes .entry)) (now (table .entry)) .leaves ⌝ }
     ensures { λ r. ⌜ now (settings .exit) ≡ settingsOut (readFile (now (bytes .entry)) (now (table .entry)) .answer) (now (settings .entry)) ⌝ }
@@ -247,7 +245,7 @@ pub extern "C" fn holdlist_file_read(
 
 // The settings that a hold file names, to settings, for a caller that has to lend a table of their size. 0.
 #[no_mangle]
-pub extern "C" fn holdlist_file_settings(bytes: &[u8], settings: &mut [u32; 4]) -> i64
+pub extern "C" fn holdlist_file_settings(bytes: &[u8], settings: &mut Lent) -> i64
     ensures { λ r. ⌜ r ≡ signed noNumber (headerAnswer (now (bytes .entry))) ⌝ }
     ensures { λ r. ⌜ now (settings .exit) ≡ settingsOut (headerAnswer (now (bytes .entry))) (now (settings .entry)) ⌝ }
 {
@@ -259,7 +257,7 @@ pub extern "C" fn holdlist_file_settings(bytes: &[u8], settings: &mut [u32; 4]) 
 
 // The packed form of the table, to out, and how many bytes it takes. Later bytes of out stay as they are.
 #[no_mangle]
-pub extern "C" fn holdlist_packed_write(settings: &[u32; 4], table: &[u16], out: &mut [u8]) -> i64
+pub extern "C" fn holdlist_packed_write(settings: &Lent, table: &[u16], out: &mut [u8]) -> i64
     ensures { λ r. ⌜ r ≡ signed itself (writePacked (settingsAt (now (settings .entry))) (now (table .entry)) (now (out .entry)) .answer) ⌝ }
     ensures { λ r. ⌜ now (out .exit) ≡ writePacked (settingsAt (now (settings .entry))) (now (table .entry)) (now (out .entry)) .leaves ⌝ }
 {
@@ -272,7 +270,7 @@ pub extern "C" fn holdlist_packed_write(settings: &[u32; 4], table: &[u16], out:
 
 // A packed form read: its cells to the table, and how many of them are filled.
 #[no_mangle]
-pub extern "C" fn holdlist_packed_read(settings: &[u32; 4], bytes: &[u8], table: &mut [u16]) -> i64
+pub extern "C" fn holdlist_packed_read(settings: &Lent, bytes: &[u8], table: &mut [u16]) -> i64
     ensures { λ r. ⌜ r ≡ signed itself (readPacked (settingsAt (now (settings .entry))) (now (bytes .entry)) (now (table .entry)) .answer) ⌝ }
     ensures { λ r. ⌜ now (table .exit) ≡ readPacked (settingsAt (now (settings .entry))) (now (bytes .entry)) (now (table .entry)) .leaves ⌝ }
 {
