@@ -11,42 +11,47 @@ use Rattle.commands.specs.Words.{letters, ifEmpty, trim, word, afterWord
 use Rattle.commands.specs.Numbers.{valueOf}
 use Rattle.commands.specs.declared.Asks.{Asks}
 use Rattle.commands.specs.declared.Command.{Command}
+use Rattle.commands.specs.declared.Expected.{Expected}
 
--- ── what stands after the name ──
+-- ── what stands after the name: where it is not as it should be, the answer says what was expected ──
 -- a tag or the name of a file: all that follows, blanks within it too
-abbrev pub withText : Command → List ℕ → Command
-withText c l = ifEmpty l Command.Missing c
+abbrev pub withText : Command → Expected → List ℕ → Command
+withText c e l = ifEmpty l (Command.Missing e) c
 
--- nothing
-abbrev pub alone : Command → List ℕ → Command
-alone c l = ifEmpty l c Command.Extra
+-- nothing more
+abbrev pub alone : Command → Expected → List ℕ → Command
+alone c e l = ifEmpty l c (Command.Extra e)
 
 -- one word more, the last
-abbrev pub lastWord : Command → List ℕ → Command
-lastWord c rest = withText (alone c (afterWord rest)) rest
+abbrev pub lastWord : Command → Expected → List ℕ → Command
+lastWord c e rest = withText (alone c e (afterWord rest)) e rest
 
 -- one number
 abbrev pub viewCommand : Option ℕ → Command
-viewCommand none = Command.NotNumber
+viewCommand none = Command.NotNumber Expected.Bucket
 viewCommand (some b) = Command.View b
 
 unfoldable pub viewLine : List ℕ → Command
-viewLine rest = lastWord (viewCommand (valueOf (word rest))) rest
+viewLine rest = lastWord (viewCommand (valueOf (word rest))) Expected.Bucket rest
 
--- four numbers
+-- four numbers; the first that is none is told
 abbrev pub settingsCommand : Option ℕ → Option ℕ → Option ℕ → Option ℕ → Command
 settingsCommand (some r) (some w) (some m) (some k) = Command.Settings r w m k
-settingsCommand (some r) (some w) (some m) none = Command.NotNumber
-settingsCommand (some r) (some w) none k = Command.NotNumber
-settingsCommand (some r) none m k = Command.NotNumber
-settingsCommand none w m k = Command.NotNumber
+settingsCommand (some r) (some w) (some m) none = Command.NotNumber Expected.Mask
+settingsCommand (some r) (some w) none k = Command.NotNumber Expected.Buckets
+settingsCommand (some r) none m k = Command.NotNumber Expected.Width
+settingsCommand none w m k = Command.NotNumber Expected.Rule
 
-unfoldable pub settingsLine : List ℕ → Command
-settingsLine rest =
+unfoldable pub fourNumbers : List ℕ → Command
+fourNumbers rest =
     let second = afterWord rest in
     let third = afterWord second in
     let fourth = afterWord third in
-    lastWord (settingsCommand (valueOf (word rest)) (valueOf (word second)) (valueOf (word third)) (valueOf (word fourth))) fourth
+    lastWord (settingsCommand (valueOf (word rest)) (valueOf (word second)) (valueOf (word third)) (valueOf (word fourth))) Expected.Settings fourth
+
+-- with nothing after it, the present settings are asked for
+unfoldable pub settingsLine : List ℕ → Command
+settingsLine rest = ifEmpty rest Command.Present (fourNumbers rest)
 
 -- ── the keywords ──
 -- a name, and what it asks for
@@ -59,13 +64,13 @@ keyword n a = record { name = letters n; asks = a }
 
 abbrev pub keywords : List Keyword
 keywords =
-    keyword "hold" (Asks.Text Command.Hold)
-    ∷ keyword "release" (Asks.Text Command.Release)
-    ∷ keyword "lookup" (Asks.Text Command.Lookup)
-    ∷ keyword "save" (Asks.Text Command.Save)
-    ∷ keyword "load" (Asks.Text Command.Load)
-    ∷ keyword "pack" (Asks.Text Command.Pack)
-    ∷ keyword "unpack" (Asks.Text Command.Unpack)
+    keyword "hold" (Asks.Text Command.Hold Expected.Tag)
+    ∷ keyword "release" (Asks.Text Command.Release Expected.Tag)
+    ∷ keyword "lookup" (Asks.Text Command.Lookup Expected.Tag)
+    ∷ keyword "save" (Asks.Text Command.Save Expected.File)
+    ∷ keyword "load" (Asks.Text Command.Load Expected.File)
+    ∷ keyword "pack" (Asks.Text Command.Pack Expected.File)
+    ∷ keyword "unpack" (Asks.Text Command.Unpack Expected.File)
     ∷ keyword "view" Asks.View
     ∷ keyword "settings" Asks.Settings
     ∷ keyword "clear" (Asks.Nothing Command.Clear)
@@ -80,8 +85,8 @@ asksOf n (k ∷ ks) = cond (same n (k .name)) (k .asks) (asksOf n ks)
 
 -- and with what stands after it
 abbrev pub asked : Asks → List ℕ → Command
-asked (Asks.Text c) rest = withText c rest
-asked (Asks.Nothing c) rest = alone c rest
+asked (Asks.Text c e) rest = withText c e rest
+asked (Asks.Nothing c) rest = alone c Expected.Nothing rest
 asked Asks.View rest = viewLine rest
 asked Asks.Settings rest = settingsLine rest
 asked Asks.Unknown rest = Command.Unknown

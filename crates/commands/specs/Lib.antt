@@ -4,5 +4,6 @@ pub mod Words
 pub mod Numbers
 pub mod Commands
 pub mod Tags
+pub mod Options
 pub mod Figures
 pub mod Internal

@@ -1,19 +1,37 @@
 // The lines of the command-line tool: what a line asks for, a tag as it is typed, and the numbers that
 // are told of a list. The tool itself only reads lines, makes the calls and prints their answers.
 mod counts;
+mod options;
 mod tags;
 mod words;
 
 pub use counts::longest;
 pub use counts::permille;
+pub use options::option;
+pub use options::without_mark;
 pub use tags::tag;
 pub use words::argument;
 pub use words::parse;
+
+// What a command takes, or one of the numbers that it takes.
+pub enum Expected {
+    Tag,
+    File,
+    Nothing,
+    Bucket,
+    Settings,
+    Rule,
+    Width,
+    Buckets,
+    Mask,
+}
 
 // What a line asks for, or what is wrong with it. A tag or the name of a file is the line's argument.
 pub enum Command {
     Nothing,
     Settings(u32, u32, u32, u32),
+    // the settings are to be told
+    Present,
     Hold,
     Release,
     Lookup,
@@ -27,12 +45,26 @@ pub enum Command {
     Help,
     // there is no such command
     Unknown,
-    // something has to stand after the command
-    Missing,
-    // too much stands after the command
-    Extra,
-    // what stands there is no number below 2^32
-    NotNumber,
+    // what has to stand after the command is not there
+    Missing(Expected),
+    // more stands there than this
+    Extra(Expected),
+    // what should be this number is none below 2^32
+    NotNumber(Expected),
+}
+
+// What an argument of the tool asks for.
+pub enum Choice {
+    // a script of this name
+    Script,
+    // the script is standard input
+    Input,
+    Strict,
+    Report,
+    Help,
+    Version,
+    // there is no such option
+    Unknown,
 }
 
 // A tag that was typed: its length, the number by which it is refused, or digits that are none.
@@ -51,7 +83,7 @@ enum Decimal {
 // What a name asks for: nothing that there is, a command with a text or with nothing after it, or one that takes numbers.
 enum Asks {
     Unknown,
-    Text(Command),
+    Text(Command, Expected),
     Nothing(Command),
     View,
     Settings,

@@ -5,10 +5,11 @@ ghost use lib.ListN.{length, take, drop};
 ghost use Rattle.commands.specs.Words.{blank as blankOf, front as frontOf, skipBlanks, trimEnd, trim, word as wordOf, afterWord, same as sameOf};
 ghost use Rattle.commands.specs.Numbers.{valueOf};
 ghost use Rattle.commands.specs.Internal.{numberIs};
-ghost use Rattle.commands.specs.Commands.{withText, alone as aloneOf, lastWord, viewCommand, viewLine, settingsCommand, settingsLine, keywords, asksOf, named as namedOf, commandOf, argumentOf};
+ghost use Rattle.commands.specs.Commands.{withText, alone as aloneOf, lastWord, viewCommand, viewLine, settingsCommand, fourNumbers, settingsLine, keywords, asksOf, named as namedOf, commandOf, argumentOf};
 use super::Asks;
 use super::Command;
 use super::Decimal;
+use super::Expected;
 
 // A space, a tab or the first byte of a line end of two.
 fn blank(b: u8) -> bool
@@ -86,7 +87,7 @@ fn after_word(text: &[u8]) -> &[u8]
     skip_blanks(&text[n..])
 }
 
-fn same(x: &[u8], y: &[u8]) -> bool
+pub(crate) fn same(x: &[u8], y: &[u8]) -> bool
     ensures { λ r. ⌜ r ≡ sameOf (now (x .entry)) (now (y .entry)) ⌝ }
 {
     if x.len() != y.len() {
@@ -128,25 +129,33 @@ fn number(text: &[u8]) -> Decimal
     Decimal::Value(n as u32)
 }
 
-// A command that takes a tag or the name of a file.
-fn with_text(c: Command, rest: &[u8]) -> Command
-    ensures { λ r. ⌜ r ≡ withText c (now (rest .entry)) ⌝ }
+// A command that something has to stand after.
+fn with_text(c: Command, e: Expected, rest: &[u8]) -> Command
+    ensures { λ r. ⌜ r ≡ withText c e (now (rest .entry)) ⌝ }
 {
-    if rest.len() == 0 { Command::Missing } else { c }
+    if rest.len() == 0 {
+        Command::Missing(e)
+    } else {
+        c
+    }
 }
 
-// A command that takes nothing.
-fn alone(c: Command, rest: &[u8]) -> Command
-    ensures { λ r. ⌜ r ≡ aloneOf c (now (rest .entry)) ⌝ }
+// A command that nothing more stands after.
+fn alone(c: Command, e: Expected, rest: &[u8]) -> Command
+    ensures { λ r. ⌜ r ≡ aloneOf c e (now (rest .entry)) ⌝ }
 {
-    if rest.len() == 0 { c } else { Command::Extra }
+    if rest.len() == 0 {
+        c
+    } else {
+        Command::Extra(e)
+    }
 }
 
 // A command that takes one word more, the last.
-fn last_word(c: Command, rest: &[u8]) -> Command
-    ensures { λ r. ⌜ r ≡ lastWord c (now (rest .entry)) ⌝ }
+fn last_word(c: Command, e: Expected, rest: &[u8]) -> Command
+    ensures { λ r. ⌜ r ≡ lastWord c e (now (rest .entry)) ⌝ }
 {
-    with_text(alone(c, after_word(rest)), rest)
+    with_text(alone(c, e, after_word(rest)), e, rest)
 }
 
 // The number that the first word is.
@@ -161,7 +170,7 @@ fn view_command(bucket: Decimal) -> Command
 {
     match bucket {
         Decimal::Value(b) => Command::View(b),
-        Decimal::None => Command::NotNumber,
+        Decimal::None => Command::NotNumber(Expected::Bucket),
     }
 }
 
@@ -169,30 +178,30 @@ fn view_command(bucket: Decimal) -> Command
 fn view_line(rest: &[u8]) -> Command
     ensures { λ r. ⌜ r ≡ viewLine (now (rest .entry)) ⌝ }
 {
-    last_word(view_command(first_number(rest)), rest)
+    last_word(view_command(first_number(rest)), Expected::Bucket, rest)
 }
 
 fn settings_command(rule: Decimal, width: Decimal, buckets: Decimal, mask: Decimal) -> Command
     ensures { λ r. ⌜ r ≡ settingsCommand (numberIs rule) (numberIs width) (numberIs buckets) (numberIs mask) ⌝ }
 {
     let Decimal::Value(r) = rule else {
-        return Command::NotNumber;
+        return Command::NotNumber(Expected::Rule);
     };
     let Decimal::Value(w) = width else {
-        return Command::NotNumber;
+        return Command::NotNumber(Expected::Width);
     };
     let Decimal::Value(m) = buckets else {
-        return Command::NotNumber;
+        return Command::NotNumber(Expected::Buckets);
     };
     let Decimal::Value(k) = mask else {
-        return Command::NotNumber;
+        return Command::NotNumber(Expected::Mask);
     };
     Command::Settings(r, w, m, k)
 }
 
-// The command that takes four numbers.
-fn settings_line(rest: &[u8]) -> Command
-    ensures { λ r. ⌜ r ≡ settingsLine (now (rest .entry)) ⌝ }
+// The command with its four numbers.
+fn four_numbers(rest: &[u8]) -> Command
+    ensures { λ r. ⌜ r ≡ fourNumbers (now (rest .entry)) ⌝ }
 {
     let second = after_word(rest);
     let third = after_word(second);
@@ -201,7 +210,21 @@ fn settings_line(rest: &[u8]) -> Command
     let width = first_number(second);
     let buckets = first_number(third);
     let mask = first_number(fourth);
-    last_word(settings_command(rule, width, buckets, mask), fourth)
+    last_word(
+        settings_command(rule, width, buckets, mask),
+        Expected::Settings,
+        fourth,
+    )
+}
+
+// The command that takes four numbers, or none to have the present ones told.
+fn settings_line(rest: &[u8]) -> Command
+    ensures { λ r. ⌜ r ≡ settingsLine (now (rest .entry)) ⌝ }
+{
+    if rest.len() == 0 {
+        return Command::Present;
+    }
+    four_numbers(rest)
 }
 
 // The keywords: their names, and what each asks for, in the same order.
@@ -211,13 +234,13 @@ const NAMES: [u8; 72] =
 const KEYWORDS: usize = 12;
 
 const ASKS: [Asks; KEYWORDS] = [
-    Asks::Text(Command::Hold),
-    Asks::Text(Command::Release),
-    Asks::Text(Command::Lookup),
-    Asks::Text(Command::Save),
-    Asks::Text(Command::Load),
-    Asks::Text(Command::Pack),
-    Asks::Text(Command::Unpack),
+    Asks::Text(Command::Hold, Expected::Tag),
+    Asks::Text(Command::Release, Expected::Tag),
+    Asks::Text(Command::Lookup, Expected::Tag),
+    Asks::Text(Command::Save, Expected::File),
+    Asks::Text(Command::Load, Expected::File),
+    Asks::Text(Command::Pack, Expected::File),
+    Asks::Text(Command::Unpack, Expected::File),
     Asks::View,
     Asks::Settings,
     Asks::Nothing(Command::Clear),
@@ -248,8 +271,8 @@ fn named(name: &[u8], rest: &[u8]) -> Command
     ensures { λ r. ⌜ r ≡ namedOf (now (name .entry)) (now (rest .entry)) ⌝ }
 {
     match keyword(name) {
-        Asks::Text(c) => with_text(c, rest),
-        Asks::Nothing(c) => alone(c, rest),
+        Asks::Text(c, e) => with_text(c, e, rest),
+        Asks::Nothing(c) => alone(c, Expected::Nothing, rest),
         Asks::View => view_line(rest),
         Asks::Settings => settings_line(rest),
         Asks::Unknown => Command::Unknown,

@@ -10,3 +10,4 @@
 pub mod boundary;
 pub mod make;
 pub mod pair;
+pub mod run;

@@ -7,11 +7,11 @@ use Rattle.gedrunelj.proofs.serve.Statement.{statement}
 use Rattle.gedrunelj.proofs.serve.Tie as tie
 
 abbrev Inv-loop : tie.InvT-loop
-Inv-loop fd room₀ cells₀ words₀ space₀ state₀ have₀ turns₀ room cells words space state have turns =
+Inv-loop log₀ fd asks room₀ cells₀ words₀ space₀ state₀ have₀ turns₀ log room cells words space state have turns =
     (have ≤ length room) × (length room ≡ length room₀) × (length cells ≡ length cells₀) × (length words ≡ length words₀) × (length space ≡ length space₀)
 
 abbrev μ-loop : tie.MeasureT-loop
-μ-loop fd room₀ cells₀ words₀ space₀ state₀ have₀ turns₀ room cells words space state have turns = turns
+μ-loop log₀ fd asks room₀ cells₀ words₀ space₀ state₀ have₀ turns₀ log room cells words space state have turns = turns
 
 slice-aggregate-answer-line : tie.Need-slice-aggregate-answer-line Inv-loop μ-loop
 slice-aggregate-answer-line c = front _ _ (search needs)
@@ -30,9 +30,15 @@ serve-spec =
     (λ c. search needs)
     (λ c. search needs)
     (λ c. search needs)
+    (λ c κs. search needs)
     (λ c. search needs)
     slice-aggregate-answer-line
     (λ c κs. search needs)
+    (λ c. search needs)
+    (λ c. search needs)
+    (λ c. search needs)
+    (λ c. search needs)
+    (λ c. search needs)
     (λ c. search needs)
     (λ c. search needs)
     (λ c. search needs)

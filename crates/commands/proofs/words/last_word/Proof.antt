@@ -8,7 +8,7 @@ use Rattle.commands.proofs.words.last_word.Tie as tie
 returns : tie.Need-returns
 returns c =
     let a = c .before .before .before .before .args in
-    c .with-text .ensures ∙ ap (λ (x : Command). withText x (a .rest .now)) (c .before .alone .ensures ∙ ap (alone (a .c)) (c .before .before .after-word .ensures))
+    c .with-text .ensures ∙ ap (λ (x : Command). withText x (a .e) (a .rest .now)) (c .before .alone .ensures ∙ ap (alone (a .c) (a .e)) (c .before .before .after-word .ensures))
 
 pub last-word-spec : {M : Type 1} → statement M
 last-word-spec = tie.close (tie.spec (λ c κs. search needs) (λ c κs. search needs) (λ c κs. search needs) returns)

@@ -1,0 +1,485 @@
+//! The command-line tool when something goes wrong: no list is lost, and trouble is told.
+
+use engine::run::{command, talk, tool, Folder, WHOLE};
+use std::ffi::CStr;
+use std::fs::{self, File, OpenOptions};
+use std::io::{Read, Write};
+use std::os::raw::{c_char, c_int};
+use std::os::unix::fs::{symlink, FileTypeExt, MetadataExt, OpenOptionsExt, PermissionsExt};
+use std::os::unix::io::FromRawFd;
+use std::os::unix::net::UnixListener;
+use std::path::{Path, PathBuf};
+use std::process::{Command, Output, Stdio};
+
+/// The tool's answers line by line.
+fn answers(output: &Output) -> Vec<String> {
+    let text = String::from_utf8(output.stdout.clone()).expect("text");
+    text.lines().map(str::to_string).collect()
+}
+
+fn errors(output: &Output) -> String {
+    String::from_utf8(output.stderr.clone()).expect("text")
+}
+
+fn ask(folder: &Folder, lines: &[&str]) -> Output {
+    let script = lines.join("\n") + "\n";
+    talk(&mut command(folder), script.as_bytes(), WHOLE)
+}
+
+/// The command that has an exit status.
+fn wrapper() -> PathBuf {
+    Path::new(env!("CARGO_MANIFEST_DIR")).join("../../gedrunelj")
+}
+
+fn wrapped(folder: &Folder) -> Command {
+    let mut command = Command::new(wrapper());
+    command.current_dir(&folder.0).env("GEDRUNELJ", tool());
+    command
+}
+
+fn status(folder: &Folder, args: &[&str], script: &str) -> (Option<i32>, Output) {
+    let output = talk(wrapped(folder).args(args), script.as_bytes(), WHOLE);
+    (output.status.code(), output)
+}
+
+// ── no list is lost ──
+
+/// A list that could not be read is not replaced by what is in memory.
+#[test]
+fn failed_load_then_save() {
+    let folder = Folder::new("failed load");
+    let first = ask(
+        &folder,
+        &["settings 0 12 8 0", "hold a", "hold b", "save good", "pack packed"],
+    );
+    assert_eq!(errors(&first), "");
+    let (good, packed) = (folder.get("good"), folder.get("packed"));
+    folder.put("stray", &[&good[..], b"\n"].concat());
+    folder.put("short", &good[..good.len() - 1]);
+    folder.put("stray packed", &[&packed[..], b"\n"].concat());
+    folder.add_folder("folder");
+    let before = folder.files();
+    for (read, write) in [
+        ("load stray", "save stray"),
+        ("load short", "save short"),
+        ("load missing", "save missing"),
+        ("load folder", "save good"),
+        ("unpack stray packed", "pack stray packed"),
+        ("unpack missing", "pack missing"),
+        ("unpack folder", "save good"),
+    ] {
+        let output = ask(&folder, &[read, "hold c", write, "save good", "pack packed"]);
+        let answers = answers(&output);
+        for answer in &answers[2..] {
+            assert!(answer.contains("not written: "), "{read}: {answer}");
+        }
+        assert!(errors(&output).starts_with("gedrunelj: "), "{read}");
+        assert_eq!(folder.files(), before, "{read}");
+    }
+}
+
+/// A new list, whatever brought it, may be written.
+#[test]
+fn written_again() {
+    let folder = Folder::new("written again");
+    ask(&folder, &["settings 0 12 8 0", "hold a", "save good", "pack packed"]);
+    for (line, written) in [
+        ("clear", true),
+        ("settings 0 12 8 0", true),
+        ("load good", true),
+        ("unpack packed", true),
+        ("settings 0 12 7 0", false),
+        ("settings", false),
+        ("hold b", false),
+        ("load missing", false),
+        ("stats", false),
+    ] {
+        let lines = ["settings 0 12 8 0", "load missing", line, "save f", "pack g"];
+        let answers = answers(&ask(&folder, &lines));
+        assert_eq!(answers[3].starts_with("saved, "), written, "{line}");
+        assert_eq!(answers[4].starts_with("packed, "), written, "{line}");
+        for name in ["f", "g"] {
+            assert_eq!(fs::remove_file(folder.path(name)).is_ok(), written, "{line}");
+        }
+    }
+}
+
+/// Some editors put a mark before the first line.
+#[test]
+fn byte_order_mark() {
+    let folder = Folder::new("byte order mark");
+    let mark = "\u{feff}";
+    for (script, expected) in [
+        (format!("{mark}hold a\nlookup a\n"), "accepted, 0 moves\nheld\n"),
+        (format!("{mark}# first\n"), "# first\n"),
+        (format!("{mark}\nhold a"), "\naccepted, 0 moves\n"),
+        (mark.to_string(), "\n"),
+    ] {
+        let output = talk(&mut command(&folder), script.as_bytes(), WHOLE);
+        assert_eq!(String::from_utf8_lossy(&output.stdout), expected, "{script:?}");
+        assert_eq!(errors(&output), "", "{script:?}");
+    }
+    // Nowhere else, and no part of it.
+    for script in [format!("hold a\n{mark}stats\n"), format!("\n{mark}{mark}stats\n")] {
+        let output = talk(&mut command(&folder), script.as_bytes(), WHOLE);
+        assert_eq!(errors(&output), "gedrunelj: 0 refused, 1 failed\n", "{script:?}");
+    }
+    let output = talk(&mut command(&folder), b"\xef\xbbstats\n", WHOLE);
+    assert_eq!(errors(&output), "gedrunelj: 0 refused, 1 failed\n");
+}
+
+// ── trouble can be seen ──
+
+const TROUBLE: [&str; 6] = [
+    "settings 0 12 8 0",
+    "hold a",
+    "view 8",
+    "nothing",
+    "load missing",
+    "hold b",
+];
+
+#[test]
+fn counts() {
+    let folder = Folder::new("counts");
+    let output = ask(&folder, &TROUBLE);
+    assert_eq!(answers(&output).len(), 6);
+    assert_eq!(errors(&output), "gedrunelj: 1 refused, 2 failed\n");
+    let output = ask(&folder, &["hold a", "release b", "lookup c", "settings"]);
+    assert_eq!(errors(&output), "");
+}
+
+/// The first trouble is the last line.
+#[test]
+fn strict() {
+    let folder = Folder::new("strict");
+    for (first, end) in [
+        ("view 8", "1 refused, 0 failed"),
+        ("nothing", "0 refused, 1 failed"),
+        ("load missing", "0 refused, 1 failed"),
+        ("hold 0x1", "0 refused, 1 failed"),
+    ] {
+        for ending in ["\n", ""] {
+            let script = format!("settings 0 12 8 0\nhold a\n{first}\nhold b\nsave f{ending}");
+            let output = talk(command(&folder).arg("--strict"), script.as_bytes(), WHOLE);
+            assert_eq!(answers(&output).len(), 3, "{first}");
+            let told = format!("gedrunelj: {end}; stopped at line 3\n");
+            assert_eq!(errors(&output), told, "{first}");
+            assert!(!folder.path("f").exists());
+        }
+    }
+    let output = talk(command(&folder).arg("--strict"), b"hold a\nnothing", WHOLE);
+    assert_eq!(errors(&output), "gedrunelj: 0 refused, 1 failed; stopped at line 2\n");
+    let output = talk(command(&folder).arg("--strict"), b"hold a\nrelease b\n", WHOLE);
+    assert_eq!((answers(&output).len(), &errors(&output)[..]), (2, ""));
+}
+
+/// The wrapper's exit status, with the same answers.
+#[test]
+fn statuses() {
+    let folder = Folder::new("statuses");
+    folder.put("good", b"hold a\nlookup a\n");
+    folder.put("bad", b"hold a\nnothing\nlookup a\n");
+    folder.put("refused", b"view 4096\n");
+    for (args, script, expected) in [
+        (&["good"][..], "", 0),
+        (&[], "hold a\nrelease b\n", 0),
+        (&["-"], "hold a\n", 0),
+        (&[], "", 0),
+        (&["bad"], "", 1),
+        (&["--strict", "bad"], "", 1),
+        (&["refused"], "", 1),
+        (&[], "load missing\n", 1),
+        (&["missing"], "hold a\n", 2),
+        (&["."], "hold a\n", 2),
+        (&[""], "hold a\n", 2),
+        (&["good", "good"], "", 2),
+        (&["--none"], "", 2),
+        (&["--help"], "", 0),
+        (&["--version"], "", 0),
+    ] {
+        let (code, output) = status(&folder, args, script);
+        assert_eq!(code, Some(expected), "{args:?} {script:?}: {}", errors(&output));
+        let plain = talk(command(&folder).args(args), script.as_bytes(), WHOLE);
+        assert_eq!(output.stdout, plain.stdout, "{args:?} {script:?}");
+        assert_eq!(output.stderr, plain.stderr, "{args:?} {script:?}");
+        assert_eq!(plain.status.code(), Some(0), "{args:?} {script:?}");
+    }
+    // A tool that is not there, one that says nothing, and one that is ended.
+    folder.put("ended", b"#!/bin/sh\nkill -9 $$\n");
+    let mode = fs::Permissions::from_mode(0o755);
+    fs::set_permissions(folder.path("ended"), mode).expect("a mode");
+    for other in ["/bin/true", "/bin/false", &folder.path("ended").to_string_lossy()] {
+        let output = talk(wrapped(&folder).env("GEDRUNELJ", other), b"hold a\n", WHOLE);
+        assert_eq!(output.status.code(), Some(3), "{other}");
+        assert_ne!(errors(&output), "", "{other}");
+    }
+}
+
+/// A list goes on from nothing that was not told: without answers, no line more.
+#[test]
+fn answers_that_cannot_be_written() {
+    let folder = Folder::new("no answers");
+    let full = || OpenOptions::new().write(true).open("/dev/full").expect("/dev/full");
+    let script = "hold a\nhold b\nsave f\n";
+    folder.put("script", script.as_bytes());
+    let ended = |output: &Output, name: &str| {
+        assert!(!folder.path("f").exists(), "{name}");
+        let told = errors(output);
+        assert!(told.contains("an answer could not be written"), "{name}: {told}");
+    };
+    let output = command(&folder).arg("script").stdout(full()).output().expect("a run");
+    ended(&output, "full disk");
+    let output = wrapped(&folder).arg("script").stdout(full()).output().expect("a run");
+    ended(&output, "full disk, wrapped");
+    assert_eq!(output.status.code(), Some(1));
+    // A descriptor that is closed must not be given to the file that is saved.
+    let mut shell = Command::new("sh");
+    shell.args(["-c", r#"exec "$0" script >&-"#]).arg(tool()).current_dir(&folder.0);
+    ended(&shell.output().expect("a run"), "closed output");
+    let mut shell = Command::new("sh");
+    shell.args(["-c", r#"exec "$0" script >&-"#]).arg(wrapper()).current_dir(&folder.0);
+    let output = shell.env("GEDRUNELJ", tool()).output().expect("a run");
+    assert_eq!(output.status.code(), Some(1));
+    assert!(!errors(&output).is_empty() && !folder.path("f").exists());
+    // Nobody reads the answers any more.
+    let mut child = wrapped(&folder)
+        .stdin(Stdio::piped())
+        .stdout(Stdio::piped())
+        .stderr(Stdio::piped())
+        .spawn()
+        .expect("the tool starts");
+    drop(child.stdout.take());
+    let mut to = child.stdin.take().expect("a pipe");
+    to.write_all(script.as_bytes()).expect("a pipe");
+    drop(to);
+    let output = child.wait_with_output().expect("the tool ends");
+    assert_eq!(output.status.code(), Some(1));
+    ended(&output, "closed pipe");
+    // And a good run does save.
+    assert_eq!(status(&folder, &["script"], "").0, Some(0));
+    assert!(folder.path("f").exists());
+}
+
+// ── files ──
+
+/// A file that is replaced keeps its rights, and its owner where the user may give it away.
+#[test]
+fn rights_are_kept() {
+    let folder = Folder::new("rights");
+    let script = &["settings 0 12 8 0", "hold a", "save f", "pack g"];
+    for mode in [0o600, 0o640, 0o444, 0o755, 0o666] {
+        for name in ["f", "g"] {
+            let _ = fs::remove_file(folder.path(name));
+            folder.put(name, b"here before");
+            let rights = fs::Permissions::from_mode(mode);
+            fs::set_permissions(folder.path(name), rights).expect("a mode");
+        }
+        let output = ask(&folder, script);
+        assert_eq!(errors(&output), "", "{mode:o}");
+        for name in ["f", "g"] {
+            let there = fs::metadata(folder.path(name)).expect("a file");
+            assert_eq!(there.mode() & 0o7777, mode, "{name}");
+            assert!(folder.get(name) != b"here before", "{name}");
+        }
+    }
+    // Only root may give a file away.
+    let mut chown = Command::new("chown");
+    let given = chown.args(["12345:23456", "f"]).current_dir(&folder.0).output();
+    if given.map_or(false, |output| output.status.success()) {
+        assert_eq!(errors(&ask(&folder, script)), "");
+        let there = fs::metadata(folder.path("f")).expect("a file");
+        assert_eq!((there.uid(), there.gid()), (12_345, 23_456));
+    }
+    // A new file has what the user's umask gives.
+    fs::remove_file(folder.path("f")).expect("a file");
+    ask(&folder, script);
+    let other = OpenOptions::new()
+        .write(true)
+        .create_new(true)
+        .mode(0o666)
+        .open(folder.path("other"))
+        .and_then(|file| file.metadata())
+        .expect("a file");
+    let there = fs::metadata(folder.path("f")).expect("a file");
+    assert_eq!(there.mode(), other.mode());
+}
+
+/// What is no regular file stays as it is, and a link too.
+#[test]
+fn irregular_files() {
+    let folder = Folder::new("irregular");
+    folder.put("target", b"here before");
+    symlink("target", folder.path("link")).expect("a link");
+    symlink("nowhere", folder.path("dangling")).expect("a link");
+    let made = Command::new("mkfifo").arg(folder.path("pipe")).status().expect("mkfifo");
+    assert!(made.success());
+    let _socket = UnixListener::bind(folder.path("socket")).expect("a socket");
+    folder.add_folder("folder");
+    let names = ["link", "dangling", "pipe", "socket", "folder"];
+    let mut script = vec!["settings 0 12 8 0".to_string(), "hold a".to_string()];
+    for name in names {
+        script.push(format!("save {name}"));
+        script.push(format!("pack {name}"));
+    }
+    script.push("save target".to_string());
+    let lines: Vec<&str> = script.iter().map(String::as_str).collect();
+    let output = ask(&folder, &lines);
+    let answers = answers(&output);
+    for (i, line) in lines.iter().enumerate().take(12).skip(2) {
+        let name = line.split(' ').nth(1).expect("two words");
+        let reason = match name {
+            "link" | "dangling" => "it is a link; give the name of the file that it leads to",
+            "folder" => "it is a folder",
+            _ => "it is no regular file",
+        };
+        assert_eq!(answers[i], format!("line {}: cannot write {name}: {reason}", i + 1));
+    }
+    assert_eq!(errors(&output), "gedrunelj: 0 refused, 10 failed\n");
+    assert!(answers[12].starts_with("saved, ") && folder.get("target") != b"here before");
+    assert!(folder.path("link").is_symlink() && folder.path("dangling").is_symlink());
+    assert!(!folder.path("nowhere").exists());
+    let kind = |name: &str| fs::symlink_metadata(folder.path(name)).expect("a file").file_type();
+    assert!(kind("pipe").is_fifo() && kind("socket").is_socket() && kind("folder").is_dir());
+    let left = fs::read_dir(&folder.0).expect("a folder").count();
+    assert_eq!(left, 6, "nothing else is left there");
+}
+
+/// A library to put before the C library's: it writes down what is forced to the disk, in what order, and fails where it is told to.
+const SHIM: &str = r#"
+#define _GNU_SOURCE
+#include <dlfcn.h>
+#include <errno.h>
+#include <stdio.h>
+#include <stdlib.h>
+#include <string.h>
+#include <sys/stat.h>
+static void note(const char *what) {
+    FILE *log = fopen(getenv("SHIM_LOG"), "a");
+    if (log) { fprintf(log, "%s\n", what); fclose(log); }
+}
+int fsync(int fd) {
+    struct stat s;
+    const char *what = fstat(fd, &s) == 0 && S_ISDIR(s.st_mode) ? "folder" : "file";
+    const char *fail = getenv("SHIM_FAIL");
+    note(what);
+    if (fail && strncmp(fail, what, strlen(what)) == 0) { errno = atoi(fail + strlen(what)); return -1; }
+    return ((int (*)(int))dlsym(RTLD_NEXT, "fsync"))(fd);
+}
+int rename(const char *from, const char *to) {
+    note("rename");
+    return ((int (*)(const char *, const char *))dlsym(RTLD_NEXT, "rename"))(from, to);
+}
+"#;
+
+/// "Saved" is said once the file, and then its new name, are on the disk.
+#[test]
+fn forced_to_the_disk() {
+    let folder = Folder::new("forced");
+    folder.put("shim.c", SHIM.as_bytes());
+    folder.add_folder("sub");
+    let shim = folder.path("shim.so");
+    let made = Command::new("gcc")
+        .args(["-shared", "-fPIC", "-O1", "-o"])
+        .args([&shim, &folder.path("shim.c")])
+        .args(["-ldl"])
+        .status()
+        .expect("gcc");
+    assert!(made.success());
+    let log = folder.path("log");
+    let run = |line: &str, fail: &str| {
+        let _ = fs::remove_file(&log);
+        let mut command = command(&folder);
+        // a path with blanks in it would be taken for several
+        command.env("LD_PRELOAD", "./shim.so").env("SHIM_LOG", &log).env("SHIM_FAIL", fail);
+        let script = format!("settings 0 12 8 0\n{line}\n");
+        let output = talk(&mut command, script.as_bytes(), WHOLE);
+        let told = fs::read_to_string(&log).expect("the shim is used");
+        (answers(&output)[1].clone(), told.replace('\n', " "), errors(&output))
+    };
+    for (line, said) in [
+        ("save f", "saved, 11 bytes"),
+        ("save f", "saved, 11 bytes"),
+        ("pack sub/g", "packed, 44 bytes"),
+    ] {
+        let (answer, order, errors) = run(line, "");
+        assert_eq!((&answer[..], &order[..]), (said, "file rename folder "), "{line}");
+        assert_eq!(errors, "");
+    }
+    let whole = format!("save {}", folder.path("sub/h").display());
+    assert_eq!(run(&whole, "").1, "file rename folder ");
+    // The folder cannot be forced: the file is there, and the doubt is told.
+    let (answer, _, errors) = run("save d", "folder5");
+    assert!(answer.starts_with("line 2: written, but a power cut may undo it: "), "{answer}");
+    assert_eq!(errors, "gedrunelj: 0 refused, 1 failed\n");
+    assert!(folder.path("d").exists());
+    // The file cannot: nothing has changed.
+    let before = folder.get("f");
+    let (answer, order, _) = run("pack f", "file5");
+    assert_eq!(answer, "line 2: cannot write f: the disk failed");
+    assert_eq!((&order[..], folder.get("f")), ("file ", before));
+    // An error that the tool has no words for comes with its number and the system's.
+    let (answer, _, errors) = run("pack f", "file122");
+    assert_eq!(answer, "line 2: cannot write f: error 122 of the system");
+    let (text, counts) = errors.split_once('\n').expect("two lines");
+    assert!(text.starts_with("gedrunelj: ") && text.len() > 16, "{errors}");
+    assert_eq!(counts, "gedrunelj: 0 refused, 1 failed\n");
+}
+
+// ── a terminal ──
+
+extern "C" {
+    fn posix_openpt(flags: c_int) -> c_int;
+    fn grantpt(fd: c_int) -> c_int;
+    fn unlockpt(fd: c_int) -> c_int;
+    fn ptsname(fd: c_int) -> *const c_char;
+}
+
+/// A terminal's two sides.
+fn terminal() -> (File, impl Fn() -> File) {
+    let read_write = 2;
+    let (ours, name) = unsafe {
+        let fd = posix_openpt(read_write);
+        assert!(fd >= 0 && grantpt(fd) == 0 && unlockpt(fd) == 0, "a terminal");
+        let name = CStr::from_ptr(ptsname(fd)).to_str().expect("a path").to_string();
+        (File::from_raw_fd(fd), name)
+    };
+    let open = move || {
+        let mut options = OpenOptions::new();
+        options.read(true).write(true).custom_flags(0o400).open(&name).expect("a terminal")
+    };
+    (ours, open)
+}
+
+/// Whoever types is asked for a line; a pipe at either end is not.
+#[test]
+fn prompt() {
+    let folder = Folder::new("prompt");
+    let (mut ours, open) = terminal();
+    let mut child = command(&folder).stdin(open()).stdout(open()).spawn().expect("the tool starts");
+    let mut seen = String::new();
+    let mut read_to = |ours: &mut File, end: &str| {
+        while !seen.ends_with(end) {
+            let mut bytes = [0; 256];
+            let n = ours.read(&mut bytes).expect("a terminal");
+            seen.push_str(&String::from_utf8_lossy(&bytes[..n]));
+        }
+        std::mem::take(&mut seen)
+    };
+    assert_eq!(read_to(&mut ours, "> "), "> ");
+    ours.write_all(b"hold a\n").expect("a terminal");
+    let shown = read_to(&mut ours, "\n> ");
+    assert!(shown.contains("accepted, 0 moves"), "{shown}");
+    // the end of the input, as it is typed
+    ours.write_all(&[4]).expect("a terminal");
+    assert!(child.wait().expect("the tool ends").success());
+    drop(ours);
+
+    let (_ours, open) = terminal();
+    let output = command(&folder).stdin(Stdio::null()).stdout(open()).output().expect("a run");
+    assert!(output.status.success());
+    let (mut ours, open) = terminal();
+    ours.write_all(b"hold a\n\x04").expect("a terminal");
+    let output = command(&folder).stdin(open()).stdout(Stdio::piped()).output().expect("a run");
+    assert_eq!(String::from_utf8_lossy(&output.stdout), "accepted, 0 moves\n");
+}
