@@ -4,10 +4,11 @@
 //! byte and what stands around each buffer that was lent. Scratch is compared where a call is
 //! refused before it may be used.
 //!
-//! The tests are generated from a seed, which each prints with the number of its calls.
-//! `HOLDLIST_SEED` sets another, and `HOLDLIST_LONG` makes the runs so many times as long.
+//! The tests are generated from a seed, the commit's hash, which each prints with the number of its
+//! calls: `SEED=..` runs them again. `HOLDLIST_LONG` makes the runs so many times as long.
 
 pub mod boundary;
 pub mod make;
 pub mod pair;
 pub mod run;
+pub mod seed;

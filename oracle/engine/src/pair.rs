@@ -1,11 +1,11 @@
 //! The engine and the other implementation side by side.
 
 use crate::boundary::Engine;
+use crate::seed;
 use oracle::index::{self, Answer, Settings};
 use oracle::requests::Mix;
 use oracle::{holdfile, packed, table};
 use std::fmt::Debug;
-use std::io::{self, Write};
 
 /// Elements on either side of what is lent that no call may touch.
 const EDGE: usize = 16;
@@ -126,7 +126,6 @@ fn number<T>(answer: Answer<T>, value: impl FnOnce(T) -> i64) -> i64 {
 /// Both sides, the buffers that they are lent, and how many calls there were.
 pub struct Pair {
     name: String,
-    seed: u64,
     pub mix: Mix,
     tag: Twin<u8>,
     table: Twin<u16>,
@@ -140,16 +139,11 @@ pub struct Pair {
 }
 
 impl Pair {
-    /// The sides of a test, with the seed from which it is generated.
+    /// The sides of a test, which is generated from the seed.
     pub fn new(name: &str) -> Self {
-        let seed = match std::env::var("HOLDLIST_SEED") {
-            Ok(text) => text.parse().expect("HOLDLIST_SEED is a number"),
-            Err(_) => 1,
-        };
-        let mut mix = Mix(index::fnv1a(name.as_bytes()) ^ seed);
+        let mut mix = seed::mix(name);
         let mut pair = Pair {
             name: name.to_string(),
-            seed,
             tag: Twin::new(1 << 10, EDGE + 1, || mix.draw() as u8),
             table: Twin::new(0, EDGE, || 0),
             scratch: Twin::new(0, EDGE, || 0),
@@ -160,7 +154,6 @@ impl Pair {
             calls: 0,
             refused: [0; 21],
         };
-        pair.tell("");
         pair.size(0, 0, 0);
         pair
     }
@@ -338,16 +331,11 @@ impl Pair {
 
     fn fail(&self, lend: Lend, call: Call, what: String) -> ! {
         panic!(
-            "{}, seed {}, call {}: {call:?} with {lend:?}: the engine's {what}",
-            self.name, self.seed, self.calls
+            "{}, SEED={:x}, call {}: {call:?} with {lend:?}: the engine's {what}",
+            self.name,
+            seed::seed(),
+            self.calls
         );
-    }
-
-    /// Writes a line past the capture of a test that passes.
-    fn tell(&self, line: &str) {
-        let line = format!("{}, seed {}{line}\n", self.name, self.seed);
-        // A line that cannot be written is no fault of the engine.
-        let _ = io::stderr().write_all(line.as_bytes());
     }
 
     /// Says how many calls there were, and makes sure that each of these refusals was among them.
@@ -356,11 +344,8 @@ impl Pair {
             .filter(|&n| self.refused[n] != 0)
             .map(|n| format!("{n}: {}", self.refused[n]))
             .collect();
-        self.tell(&format!(
-            ": {} calls; refused {}",
-            self.calls,
-            list.join(", ")
-        ));
+        let said = format!(": {} calls; refused {}", self.calls, list.join(", "));
+        seed::tell(&self.name, &said);
         for &number in refusals {
             assert!(
                 self.refused[number] > 0,
