@@ -1,5 +1,5 @@
 //! Links the engine's archive: the one that `rt staticlib holdlist` writes, or that of the folder
-//! `HOLDLIST_LIB_DIR`.
+//! `HOLDLIST_LIB_DIR`. Tests get the one of `rt staticlib test_view` too.
 
 use std::env;
 use std::path::{Path, PathBuf};
@@ -22,4 +22,7 @@ fn main() {
     println!("cargo:rerun-if-changed={}", archive.display());
     println!("cargo:rustc-link-search=native={}", folder.display());
     println!("cargo:rustc-link-lib=static=holdlist");
+    let view = folder.join("libtest_view.a");
+    println!("cargo:rerun-if-changed={}", view.display());
+    println!("cargo:rustc-link-arg-tests={}", view.display());
 }
