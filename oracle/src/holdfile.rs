@@ -102,8 +102,8 @@ pub fn write(settings: Settings, table: &[u16], out: &mut [u8]) -> Answer<usize>
         out[at] = map as u8;
         at += 1;
         // What is written beyond the fingerprints, the next bucket writes over.
-        match out[at..].first_chunk_mut() {
-            Some(place) => *place = prints,
+        match out.get_mut(at..at + prints.len()) {
+            Some(place) => place.copy_from_slice(&prints),
             None => out[at..at + length].copy_from_slice(&prints[..length]),
         }
         at += length;
@@ -113,9 +113,9 @@ pub fn write(settings: Settings, table: &[u16], out: &mut [u8]) -> Answer<usize>
 
 /// The next bytes, all of them, or 11.
 fn take<const N: usize>(bytes: &mut &[u8]) -> Answer<[u8; N]> {
-    let (field, rest) = bytes.split_first_chunk().ok_or(11u32)?;
-    *bytes = rest;
-    Ok(*field)
+    let field = bytes.get(..N).ok_or(11u32)?;
+    *bytes = &bytes[N..];
+    Ok(field.try_into().expect("so many bytes"))
 }
 
 /// Takes the map and the fields.
@@ -155,8 +155,8 @@ fn marked(map: u8) -> usize {
 
 /// The first eight bytes as one number, with zeros where there are fewer.
 fn word(bytes: &[u8]) -> u64 {
-    match bytes.first_chunk() {
-        Some(chunk) => u64::from_le_bytes(*chunk),
+    match bytes.get(..8) {
+        Some(chunk) => u64::from_le_bytes(chunk.try_into().expect("eight bytes")),
         None => bytes
             .iter()
             .rev()

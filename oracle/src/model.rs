@@ -43,8 +43,9 @@ impl Model {
     /// The class of a tag, once the checks that concern it have passed.
     fn class(&self, tag: &[u8], scratch: Option<usize>) -> Answer<Class> {
         self.settings.check()?;
-        if scratch.is_some_and(|n| n < 2 * self.settings.buckets as usize) {
-            return Err(6);
+        match scratch {
+            Some(n) if n < 2 * self.settings.buckets as usize => return Err(6),
+            _ => {}
         }
         let (fingerprint, home) = index::entry(self.settings, tag)?;
         Class::of(self.settings, fingerprint, home)
@@ -129,8 +130,9 @@ mod tests {
 
     /// Whether some choice of buckets is a layout, by trying them all.
     fn by_trial(entries: &[Class], room: &mut [usize]) -> bool {
-        let Some((first, rest)) = entries.split_first() else {
-            return true;
+        let (first, rest) = match entries.split_first() {
+            Some(parts) => parts,
+            None => return true,
         };
         first.buckets.iter().any(|&bucket| {
             let bucket = bucket as usize;

@@ -37,17 +37,20 @@ static QUADRUPLES: [[u16; CELLS]; ROWS] = {
     all
 };
 
-/// How many ascending lists of so many leads start with one below this.
-const fn below(length: usize, lead: usize) -> usize {
-    let (mut count, mut first) = (0, 0);
-    while first < lead {
-        count += match length {
-            1 => 1,
-            _ => below(length - 1, LEADS) - below(length - 1, first),
-        };
-        first += 1;
+/// How many ascending lists of so many leads have none below this: each more lead multiplies and
+/// divides the count, as along a diagonal of Pascal's triangle.
+const fn from(length: usize, lead: usize) -> usize {
+    let (mut count, mut i) = (1, 0);
+    while i < length {
+        count = count * (LEADS - lead + i) / (i + 1);
+        i += 1;
     }
     count
+}
+
+/// How many ascending lists of so many leads start with one below this.
+const fn below(length: usize, lead: usize) -> usize {
+    from(length, 0) - from(length, lead)
 }
 
 /// What each lead but the last adds to the row number, by its place.
@@ -82,6 +85,10 @@ fn sorted([a, b, c, d]: [u16; CELLS]) -> [u16; CELLS] {
     [a, b, c, d]
 }
 
+fn ascending([a, b, c, d]: [u16; CELLS]) -> bool {
+    a <= b && b <= c && c <= d
+}
+
 /// The bits of a bucket, whose cells may be in any order.
 fn join<const W: usize>(cells: &[u16]) -> u64 {
     let rest = W - 4;
@@ -110,7 +117,7 @@ const fn bucket_bits(width: usize) -> usize {
 
 /// How many bytes the form has.
 fn length(settings: Settings) -> usize {
-    (bucket_bits(settings.width as usize) * settings.buckets as usize).div_ceil(8)
+    (bucket_bits(settings.width as usize) * settings.buckets as usize + 7) / 8
 }
 
 /// Calls a function that is made for each width.
@@ -199,7 +206,7 @@ fn unpack<const W: usize>(
 
 fn check_then_fill<const W: usize>(bytes: &[u8], table: &mut [u16]) -> Answer<usize> {
     unpack::<W>(bytes, |cells| {
-        if !cells.is_sorted() {
+        if !ascending(cells) {
             return Err(19);
         }
         Ok(())
@@ -279,7 +286,7 @@ mod tests {
         // A network that sorts every list of zeros and ones sorts every list.
         for bits in 0..16 {
             let list = [0, 1, 2, 3].map(|i| bits >> i & 1);
-            assert!(sorted(list).is_sorted(), "{list:?}");
+            assert!(ascending(sorted(list)), "{list:?}");
         }
     }
 
@@ -377,7 +384,7 @@ mod tests {
             let settings = Settings::new(PLAIN, width, 1, 0);
             let bytes = [0; 10];
             for n in 0..bytes.len() {
-                let good = (4 * (width as usize - 1)).div_ceil(8);
+                let good = (4 * (width as usize - 1) + 7) / 8;
                 let mut table = [7; 4];
                 let answer = read(settings, &bytes[..n], &mut table);
                 assert_eq!(

@@ -105,12 +105,16 @@ fn settings_and_cells(bytes: &[u8], cells: usize) -> Answer<(Settings, Vec<u16>)
     Ok((s, table))
 }
 
+fn ascending(list: &[u16]) -> bool {
+    list.windows(2).all(|two| two[0] <= two[1])
+}
+
 /// Every ascending quadruple of leads, in dictionary order.
 fn rows() -> Vec<[u16; 4]> {
     let mut all = vec![];
     for n in 0..1u32 << 16 {
         let leads = [12, 8, 4, 0].map(|i| (n >> i & 15) as u16);
-        if leads.is_sorted() {
+        if ascending(&leads) {
             all.push(leads);
         }
     }
@@ -155,7 +159,7 @@ fn buckets_of(s: Settings, bytes: &[u8], rows: &[[u16; 4]]) -> Answer<Vec<u16>> 
     for _ in 0..s.buckets {
         let row = rows.get(number(12)).ok_or(18u32)?;
         let cells = row.map(|lead| (lead << (s.width - 4)) + number(s.width - 4) as u16);
-        if !cells.is_sorted() {
+        if !ascending(&cells) {
             return Err(19);
         }
         table.extend(cells);

@@ -18,7 +18,7 @@ fn with(width: u32, buckets: u32) -> Settings {
 }
 
 fn bytes_of(s: Settings) -> usize {
-    (4 * (s.width as usize - 1) * s.buckets as usize).div_ceil(8)
+    (4 * (s.width as usize - 1) * s.buckets as usize + 7) / 8
 }
 
 fn open(pair: &mut Pair, s: Settings) {

@@ -9,7 +9,7 @@
 use engine::boundary::Engine;
 use oracle::index::{Settings, MASKED, PLAIN, RING};
 use oracle::{holdfile, packed, table};
-use std::hint::black_box;
+use std::ptr;
 use std::time::Instant;
 
 const ROUNDS: usize = 9;
@@ -112,6 +112,12 @@ fn measure(mut run: impl FnMut(Side) -> f64) -> [f64; 2] {
     })
 }
 
+/// Takes an answer, so that the call which gave it is not left out.
+fn used(answer: i64) {
+    // The answer is there to be read.
+    unsafe { ptr::read_volatile(&answer) };
+}
+
 fn timed(work: impl FnOnce()) -> f64 {
     let start = Instant::now();
     work();
@@ -190,7 +196,7 @@ fn table_rows(name: &str, s: Settings) {
         measure(|side| {
             let nanos = timed(|| {
                 for tag in list {
-                    black_box(side.lookup(s, &cells, tag));
+                    used(side.lookup(s, &cells, tag));
                 }
             });
             nanos / list.len() as f64
@@ -206,7 +212,7 @@ fn table_rows(name: &str, s: Settings) {
         let count = held.min(100_000);
         let nanos = timed(|| {
             for tag in &list[..count] {
-                black_box(side.release(s, &mut cells, tag));
+                used(side.release(s, &mut cells, tag));
             }
         });
         nanos / count as f64
@@ -224,14 +230,14 @@ fn format_rows(s: Settings, share: f64) {
     let file = out[..size].to_vec();
     let written = measure(|side| {
         timed(|| {
-            black_box(side.file_write(s, &cells, &mut out));
+            used(side.file_write(s, &cells, &mut out));
         })
     });
     speed(&format!("hold file, write, {at}"), size, written);
     let mut table = cells.clone();
     let read = measure(|side| {
         timed(|| {
-            black_box(side.file_read(&file, &mut table));
+            used(side.file_read(&file, &mut table));
         })
     });
     speed(&format!("hold file, read, {at}"), size, read);
@@ -239,13 +245,13 @@ fn format_rows(s: Settings, share: f64) {
     let form = out[..size].to_vec();
     let written = measure(|side| {
         timed(|| {
-            black_box(side.packed_write(s, &cells, &mut out));
+            used(side.packed_write(s, &cells, &mut out));
         })
     });
     speed(&format!("packed form, write, {at}"), size, written);
     let read = measure(|side| {
         timed(|| {
-            black_box(side.packed_read(s, &form, &mut table));
+            used(side.packed_read(s, &form, &mut table));
         })
     });
     speed(&format!("packed form, read, {at}"), size, read);
