@@ -1,6 +1,8 @@
 -- What is proved of the definitions.
 pub mod Marks
 pub mod Parses
+pub mod AnswerOrder
+pub mod RefusedWrite
 pub mod Fields
 pub mod Headers
 pub mod Buckets

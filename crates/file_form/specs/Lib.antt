@@ -7,4 +7,6 @@ pub mod Header
 pub mod Writer
 pub mod Reader
 pub mod RoundTrip
+pub mod AnswerOrder
+pub mod RefusedWrite
 pub mod Laws

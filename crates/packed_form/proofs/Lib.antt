@@ -1,4 +1,5 @@
 -- The packed form's proofs, by what they speak of.
+pub mod Refused
 pub mod Codes
 pub mod Sort
 pub mod Filled

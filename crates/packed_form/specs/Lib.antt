@@ -2,3 +2,4 @@
 pub mod Writer
 pub mod Reader
 pub mod RoundTrip
+pub mod Refused

@@ -1,0 +1,171 @@
+-- Which number a file is answered with where several things are wrong.
+-- Assumes nothing.
+use mathlib.Core.Path.{_≡_, refl, ap, _∙_}
+use mathlib.Core.Logic.{_≢_}
+use mathlib.Core.Bool.{Bool, true, false, cond, _||_}
+use mathlib.Core.Option.{Option, none, some}
+use mathlib.Core.List.{List, [], _∷_, _++_}
+use Prim.Native.Nat.{ℕ, zero, suc, _+_, _*_, _/_, _^_, _≤_, _<_}
+use native.Mathlib.Decide.{decLe}
+use native.Mathlib.Omega.{arith}
+use borrow.Author.Tests.{le-leb, lt-leb}
+use lib.Dec.{eqb, leb}
+use lib.ListN.{length, take, drop, length-drop}
+use Rattle.lemmas.specs.Bytes.{numberFrom}
+use Rattle.refusals.specs.Checks.{firstMet}
+use Rattle.refusals.specs.Outcomes.{refused, Done, keeping}
+use Rattle.refusals.proofs.Cursor.{start, met, passed, none-left}
+use Rattle.index.specs.Settings.{settingsRefusal}
+use Rattle.index.specs.declared.Settings.{Settings}
+use Rattle.calls.specs.Calls.{tableChecks, Sound}
+use Rattle.calls.proofs.Laws.{table-check-laws}
+use Rattle.file_form.specs.Bytes.{bit0}
+use Rattle.file_form.specs.Parsed.{Parsed, stop, next, andThen, refuseIf, checked, answerOf}
+use Rattle.file_form.specs.Fields.{bit, anyOf, takeNumber, field, takeFields}
+use Rattle.file_form.specs.Header.{sizes, settingsFrom, defaults, mapChecks, misfits, misfit}
+use Rattle.file_form.specs.Reader.{fitting, readFields, afterMap, readHeader, readCell, readCells, readBucket, readBuckets, afterBuckets, afterHeader, readAll, readFile}
+use Rattle.file_form.specs.AnswerOrder.{fieldsLength, AnswerOrder}
+use Rattle.file_form.proofs.Parses.{onward, split, same-next}
+
+-- a part that stopped stops the rest
+stopped : {A B : Type 0} (p : Parsed A) (f : A → List ℕ → Parsed B) (n : ℕ) → p ≡ stop n → andThen p f ≡ stop n
+stopped p f n e = ap (λ (q : Parsed _). andThen q f) e
+
+told : (bytes c : List ℕ) (n : ℕ) → readAll bytes c ≡ stop n → readFile bytes c .answer ≡ refused n
+unfolding readFile
+told bytes c n e = rw e refl
+
+by-header : (bytes c : List ℕ) (n : ℕ) → readHeader bytes ≡ stop n → readFile bytes c .answer ≡ refused n
+unfolding readAll
+by-header bytes c n e = told bytes c n (stopped (readHeader bytes) (afterHeader c) n e)
+
+-- ── the header ──
+no-byte : readHeader [] ≡ stop 11
+unfolding readHeader
+no-byte = refl
+
+module _ (map : ℕ) (rest : List ℕ) where
+  upper : 16 ≤ map → readHeader (map ∷ rest) ≡ stop 12
+  unfolding readHeader afterMap mapChecks
+  upper h = ap (λ (o : Option ℕ). checked o (readFields map rest)) (met (start (mapChecks map)) (le-leb 16 map h))
+
+  passes : map < 16 → firstMet (mapChecks map) ≡ none
+  unfolding mapChecks
+  passes h = none-left (passed (start (mapChecks map)) (lt-leb 16 map h))
+
+  lower : map < 16 → (n : ℕ) → readFields map rest ≡ stop n → readHeader (map ∷ rest) ≡ stop n
+  unfolding readHeader afterMap
+  lower h n e = ap (λ (o : Option ℕ). checked o (readFields map rest)) (passes h) ∙ e
+
+-- a number of which not every byte is there, and one that is whole
+cut-number : (n : ℕ) (l : List ℕ) → length l < n → takeNumber n l ≡ stop 11
+cut-number n l h = rw (lt-leb n (length l) h) refl
+
+whole-number : (n : ℕ) (l : List ℕ) → n ≤ length l → takeNumber n l ≡ next (numberFrom (take n l)) (drop n l)
+whole-number n l h = rw (le-leb n (length l) h) refl
+
+-- fields of any sizes, and bytes that end before them
+short : (ns : List ℕ) (m : ℕ) (ds l : List ℕ) → length ds ≡ length ns → length l < fieldsLength ns m → takeFields ns m ds l ≡ stop 11
+short [] m ds l e h = absurd (omega arith)
+short (n ∷ ns) m [] l e h = absurd (omega arith)
+short (n ∷ ns) m (d ∷ ds) l e h = go (bit 0 m) refl (λ k g. short ns (m / 2) ds k (omega arith) g)
+  where
+    go : (t : Bool) → bit 0 m ≡ t → ((k : List ℕ) → length k < fieldsLength ns (m / 2) → takeFields ns (m / 2) ds k ≡ stop 11)
+        → andThen (field t d (takeNumber n) l) (λ v r. andThen (takeFields ns (m / 2) ds r) (λ vs end. next (v ∷ vs) end)) ≡ stop 11
+    go false q more = stopped (takeFields ns (m / 2) ds l) (λ vs end. next (d ∷ vs) end) 11 (more l (omega (arith, ap (λ (t : Bool). cond t n 0) q)))
+    go true q more = elim (decLe n (length l)) [
+      | no g ↦ stopped (takeNumber n l) _ 11 (cut-number n l (omega arith))
+      | yes g ↦ onward (takeNumber n l) _ _ _ (whole-number n l g)
+          ∙ stopped (takeFields ns (m / 2) ds (drop n l)) (λ vs end. next (numberFrom (take n l) ∷ vs) end) 11
+          (more (drop n l) (omega (arith, length-drop n l, g, ap (λ (t : Bool). cond t n 0) q)))
+    ]
+
+module _ (map : ℕ) (rest : List ℕ) (h : map < 16) where
+  cut : length rest < fieldsLength sizes map → readHeader (map ∷ rest) ≡ stop 11
+  unfolding readFields
+  cut l = lower map rest h 11 (stopped (takeFields sizes map defaults rest) (fitting map) 11 (short sizes map defaults rest refl l))
+
+  unfit : (values more : List ℕ) → takeFields sizes map defaults rest ≡ next values more → anyOf (misfits map (settingsFrom values)) ≡ true → readHeader (map ∷ rest) ≡ stop 12
+  unfolding readFields fitting misfit
+  unfit values more e q =
+      lower map rest h 12
+      (onward (takeFields sizes map defaults rest) (fitting map) values more e
+      ∙ ap (λ (t : Bool). refuseIf t 12 (next (settingsFrom values) more)) q)
+
+-- ── a bucket ──
+no-marks : (w : ℕ) → readBucket w [] ≡ stop 11
+unfolding readBucket
+no-marks w = refl
+
+marks : (w b : ℕ) (more : List ℕ) → 16 ≤ b → readBucket w (b ∷ more) ≡ stop 13
+unfolding readBucket
+marks w b more h = ap (λ (t : Bool). refuseIf t 13 (readCells w b more)) (le-leb 16 b h)
+
+-- its first cell, where that is marked
+first-cell : (w b : ℕ) (l : List ℕ) (n : ℕ) → b < 16 → bit0 b ≡ true → readCell w true l ≡ stop n → readBucket w (b ∷ l) ≡ stop n
+unfolding readBucket readCells
+first-cell w b l n h q e =
+    ap (λ (t : Bool). refuseIf t 13 (readCells w b l)) (lt-leb 16 b h)
+    ∙ stopped (readCell w (bit0 b) l) _ n (ap (λ (t : Bool). readCell w t l) q ∙ e)
+
+print : (w b low high : ℕ) (more : List ℕ) → b < 16 → bit0 b ≡ true → (eqb (low + 256 * high) 0 || leb (2 ^ w) (low + 256 * high)) ≡ true
+    → readBucket w (b ∷ low ∷ high ∷ more) ≡ stop 14
+print w b low high more h q e = first-cell w b (low ∷ high ∷ more) 14 h q (ap (λ (t : Bool). refuseIf t 14 (next (low + 256 * high) more)) e)
+
+cut-print : (w b : ℕ) (l : List ℕ) → b < 16 → bit0 b ≡ true → length l < 2 → readBucket w (b ∷ l) ≡ stop 11
+cut-print w b [] h q e = first-cell w b [] 11 h q refl
+cut-print w b (low ∷ []) h q e = first-cell w b (low ∷ []) 11 h q refl
+cut-print w b (low ∷ high ∷ l) h q e = absurd (omega arith)
+
+-- behind k buckets that are sound
+behind : (w k m : ℕ) (l cells at : List ℕ) (n : ℕ) → k < m → readBuckets w k l ≡ next cells at → readBucket w at ≡ stop n → readBuckets w m l ≡ stop n
+unfolding readBuckets
+behind w k zero l cells at n h e b = absurd (omega arith)
+behind w zero (suc m) l cells at n h e b = stopped (readBucket w l) _ n (ap (readBucket w) (same-next e .1) ∙ b)
+behind w (suc k) (suc m) l cells at n h e b =
+    let less : k < m = omega arith in
+    let s1 = split _ _ cells at e in
+    let s2 = split _ _ cells at (s1 .then) in
+    let end = same-next (s2 .then) in
+    let more = behind w k m (s1 .rest) (s2 .value) (s2 .rest) n less (s2 .first) (ap (readBucket w) (end .1) ∙ b) in
+    onward (readBucket w l) _ (s1 .value) (s1 .rest) (s1 .first) ∙ stopped (readBuckets w m (s1 .rest)) (λ cs r. next (s1 .value ++ cs) r) n more
+
+-- ── behind a header that is sound ──
+module _ (bytes c rest : List ℕ) (s : Settings) (head : readHeader bytes ≡ next s rest) where
+  abbrev body : Parsed (Done Settings (List ℕ))
+  body = andThen (readBuckets (s .width) (s .buckets) rest) (afterBuckets s)
+
+  goes-on : readAll bytes c ≡ checked (firstMet (tableChecks s c)) body
+  unfolding readAll afterHeader
+  goes-on = onward (readHeader bytes) (afterHeader c) s rest head
+
+  by-check : (n : ℕ) → firstMet (tableChecks s c) ≡ some n → readFile bytes c .answer ≡ refused n
+  by-check n e = told bytes c n (goes-on ∙ ap (λ (o : Option ℕ). checked o body) e)
+
+  module _ (S : Sound s c) where
+    to-body : readAll bytes c ≡ body
+    to-body = goes-on ∙ ap (λ (o : Option ℕ). checked o body) (table-check-laws s c .passes S)
+
+    by-bucket : (cells at : List ℕ) (k n : ℕ) → k < s .buckets → readBuckets (s .width) k rest ≡ next cells at → readBucket (s .width) at ≡ stop n → readFile bytes c .answer ≡ refused n
+    by-bucket cells at k n h e b =
+        told bytes c n (to-body ∙ stopped (readBuckets (s .width) (s .buckets) rest) (afterBuckets s) n (behind (s .width) k (s .buckets) rest cells at n h e b))
+
+    by-more : (cells more : List ℕ) (b : ℕ) → readBuckets (s .width) (s .buckets) rest ≡ next cells (b ∷ more) → readFile bytes c .answer ≡ refused 15
+    unfolding afterBuckets
+    by-more cells more b e = told bytes c 15 (to-body ∙ onward (readBuckets (s .width) (s .buckets) rest) (afterBuckets s) cells (b ∷ more) e)
+
+pub answer-order : AnswerOrder
+answer-order = record {
+  no-byte = λ c. by-header [] c 11 no-byte;
+  map-bits = λ m rest c h. by-header (m ∷ rest) c 12 (upper m rest h);
+  fields = λ m rest c h l. by-header (m ∷ rest) c 11 (cut m rest h l);
+  misfits = λ m rest c values more h e q. by-header (m ∷ rest) c 12 (unfit m rest h values more e q);
+  settings = λ bytes c rest s n head e. by-check bytes c rest s head n (table-check-laws s c .by-settings n e);
+  table = λ bytes c rest s head e h. by-check bytes c rest s head 5 (table-check-laws s c .by-size e h);
+  buckets = λ bytes c rest cells at s k n head S h e b. by-bucket bytes c rest s head S cells at k n h e b;
+  no-marks = no-marks;
+  marks = marks;
+  print = print;
+  cut-print = cut-print;
+  left-over = λ bytes c rest cells more s b head S e. by-more bytes c rest s head S cells more b e;
+}

@@ -1,0 +1,52 @@
+-- Which number a file is answered with where several things are wrong: that of the first in byte order, whatever stands behind it. For
+-- every file and every table.
+-- Assumes nothing.
+use mathlib.Core.Path.{_≡_}
+use mathlib.Core.Logic.{_≢_}
+use mathlib.Core.Bool.{true, _||_}
+use mathlib.Core.Option.{none, some}
+use mathlib.Core.List.{List, [], _∷_}
+use Prim.Native.Nat.{ℕ, _+_, _*_, _/_, _^_, _≤_, _<_}
+use lib.Dec.{eqb, leb}
+use lib.ListN.{length}
+use Rattle.refusals.specs.Outcomes.{refused}
+use Rattle.index.specs.Settings.{settingsRefusal}
+use Rattle.index.specs.declared.Settings.{Settings}
+use Rattle.calls.specs.Calls.{Sound}
+use Rattle.file_form.specs.Bytes.{bit0}
+use Rattle.file_form.specs.Parsed.{stop, next}
+use Rattle.file_form.specs.Fields.{anyOf, partSize, takeFields}
+use Rattle.file_form.specs.Header.{sizes, settingsFrom, defaults, misfits}
+use Rattle.file_form.specs.Reader.{readHeader, readBucket, readBuckets, readFile}
+
+-- how many bytes the fields take that are there
+abbrev pub fieldsLength : List ℕ → ℕ → ℕ
+fieldsLength [] map = 0
+fieldsLength (n ∷ sizes) map = partSize map n + fieldsLength sizes (map / 2)
+
+pub record AnswerOrder : Type 0 where
+  -- no byte at all
+  pub no-byte : (c : List ℕ) → readFile [] c .answer ≡ refused 11
+  -- an upper bit of the map, whatever follows
+  pub map-bits : (map : ℕ) (rest c : List ℕ) → 16 ≤ map → readFile (map ∷ rest) c .answer ≡ refused 12
+  -- bytes that end before the fields do, whatever these say
+  pub fields : (map : ℕ) (rest c : List ℕ) → map < 16 → length rest < fieldsLength sizes map → readFile (map ∷ rest) c .answer ≡ refused 11
+  -- the other causes of 12, whatever the settings are, and whatever follows
+  pub misfits : (map : ℕ) (rest c values more : List ℕ) → map < 16 → takeFields sizes map defaults rest ≡ next values more → anyOf (misfits map (settingsFrom values)) ≡ true
+      → readFile (map ∷ rest) c .answer ≡ refused 12
+  -- the settings of a sound header, whatever the table and the buckets are
+  pub settings : (bytes c rest : List ℕ) (s : Settings) (n : ℕ) → readHeader bytes ≡ next s rest → settingsRefusal s ≡ some n → readFile bytes c .answer ≡ refused n
+  -- good settings and a table of another length, whatever the buckets are
+  pub table : (bytes c rest : List ℕ) (s : Settings) → readHeader bytes ≡ next s rest → settingsRefusal s ≡ none → length c ≢ 4 * s .buckets → readFile bytes c .answer ≡ refused 5
+  -- the buckets in their order: the first that is not sound, whatever follows
+  pub buckets : (bytes c rest cells at : List ℕ) (s : Settings) (k n : ℕ) → readHeader bytes ≡ next s rest → Sound s c → k < s .buckets
+      → readBuckets (s .width) k rest ≡ next cells at → readBucket (s .width) at ≡ stop n → readFile bytes c .answer ≡ refused n
+  -- in a bucket its byte, whatever fingerprints follow, and then the first of these, whatever follows it
+  pub no-marks : (w : ℕ) → readBucket w [] ≡ stop 11
+  pub marks : (w b : ℕ) (more : List ℕ) → 16 ≤ b → readBucket w (b ∷ more) ≡ stop 13
+  pub print : (w b low high : ℕ) (more : List ℕ) → b < 16 → bit0 b ≡ true → (eqb (low + 256 * high) 0 || leb (2 ^ w) (low + 256 * high)) ≡ true
+      → readBucket w (b ∷ low ∷ high ∷ more) ≡ stop 14
+  pub cut-print : (w b : ℕ) (l : List ℕ) → b < 16 → bit0 b ≡ true → length l < 2 → readBucket w (b ∷ l) ≡ stop 11
+  -- bytes that are left over, last of all
+  pub left-over : (bytes c rest cells more : List ℕ) (s : Settings) (b : ℕ) → readHeader bytes ≡ next s rest → Sound s c
+      → readBuckets (s .width) (s .buckets) rest ≡ next cells (b ∷ more) → readFile bytes c .answer ≡ refused 15
