@@ -35,19 +35,7 @@ use Rattle.calls.proofs.Model.{step-lookup}
 use Rattle.calls.proofs.Refusals.{tag-refusal}
 use Rattle.calls.proofs.Demand.{forget-held}
 
--- ── the writes along a path are its relocation ──
-moves-length : (c : List ℕ) (i : ℕ) (path : List ℕ) (v : ℕ) → length (moves c i path v) ≡ length path + 1
-moves-length c i [] v = refl
-moves-length c i (j ∷ path) v = omega (arith, moves-length (set c i (cell c j)) j path v)
-
-moves-whole : (c : List ℕ) (i : ℕ) (path : List ℕ) (v : ℕ) → afterWrites c (moves c i path v) ≡ relocate c i path v
-moves-whole c i [] v = refl
-moves-whole c i (j ∷ path) v = moves-whole (set c i (cell c j)) j path v
-
-writes-length : (c : List ℕ) (ws : List Write) → length (afterWrites c ws) ≡ length c
-writes-length c [] = refl
-writes-length c (w ∷ ws) = writes-length (set c (w .at) (w .value)) ws ∙ length-set c (w .at) (w .value)
-
+-- ── the writes along a path lose no entry ──
 module _ (s : Settings) (L : Laws s) where
   -- what stood in cell i may go, and nothing else does
   moves-keep : (w : Class → ℕ) (rs : List ℕ) (v k : ℕ) (c : List ℕ) (i : ℕ) (path : List ℕ) → length c ≡ 4 * s .buckets → i < 4 * s .buckets → Chain s c rs (i / 4) path
@@ -64,6 +52,20 @@ module _ (s : Settings) (L : Laws s) where
         moves-keep w rs v k (set c i (cell c j)) j path (length-set c i (cell c j) ∙ e) (g .1) (chain-set s L c rs i (cell c j) (j / 4) path (omega (arith, g .2)) (g .3)),
       )
 
+-- ── they are its relocation ──
+moves-length : (c : List ℕ) (i : ℕ) (path : List ℕ) (v : ℕ) → length (moves c i path v) ≡ length path + 1
+moves-length c i [] v = refl
+moves-length c i (j ∷ path) v = omega (arith, moves-length (set c i (cell c j)) j path v)
+
+moves-whole : (c : List ℕ) (i : ℕ) (path : List ℕ) (v : ℕ) → afterWrites c (moves c i path v) ≡ relocate c i path v
+moves-whole c i [] v = refl
+moves-whole c i (j ∷ path) v = moves-whole (set c i (cell c j)) j path v
+
+writes-length : (c : List ℕ) (ws : List Write) → length (afterWrites c ws) ≡ length c
+writes-length c [] = refl
+writes-length c (w ∷ ws) = writes-length (set c (w .at) (w .value)) ws ∙ length-set c (w .at) (w .value)
+
+module _ (s : Settings) (L : Laws s) where
   module _ (c : List ℕ) (p b : ℕ) (l : b < s .buckets) (size : length c ≡ 4 * s .buckets) where
     abbrev rs : List ℕ
     rs = candidates s p b
@@ -73,9 +75,9 @@ module _ (s : Settings) (L : Laws s) where
         → total w (entries s c) ≤ total w (entries s (afterWrites c (take k (writesBy c p o r))))
     kept-by (some i) f r g k w =
         let m : i / 4 < s .buckets = L .below p b (i / 4) l (f .1) in
-        omega (arith, moves-keep w rs p k c i [] size (omega arith) (f .1), weight-empty s w i (cell c i) (f .0))
+        omega (arith, moves-keep s L w rs p k c i [] size (omega arith) (f .1), weight-empty s w i (cell c i) (f .0))
     kept-by none f (found i n q) g k w =
-        omega (arith, moves-keep w rs p k c i (n .path) size (g .within) (rw (g .place) (g .chain)), weight-empty s w i (cell c i) (g .empty))
+        omega (arith, moves-keep s L w rs p k c i (n .path) size (g .within) (rw (g .place) (g .chain)), weight-empty s w i (cell c i) (g .empty))
     kept-by none f (exhausted q) g zero w = omega arith
     kept-by none f (exhausted q) g (suc k) w = omega arith
 

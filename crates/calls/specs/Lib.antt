@@ -8,6 +8,7 @@ pub mod Assignment
 pub mod AssignmentDecided
 pub mod Model
 pub mod Demand
+pub mod CheckOrder
 pub mod Interrupted
 pub mod WrittenForms
 pub mod Laws
