@@ -25,19 +25,20 @@ use Rattle.calls.specs.CheckOrder.{CheckOrder}
 
 module _ (s : Settings) (c : List ℕ) where
   -- ── the checks that every call begins with, and whatever more ──
-  size : settingsRefusal s ≡ none → length c ≢ 4 * s .buckets → firstMet (tableChecks s c) ≡ some 5
+  pub by-settings : (k : ℕ) → settingsRefusal s ≡ some k → firstMet (tableChecks s c) ≡ some k
   unfolding tableChecks
-  size e h = met (all-passed (settingsChecks s) (_ ∷ []) (start _) e) (ap not (ne-eqb (length c) (4 * s .buckets) h))
+  by-settings k e = all-met (settingsChecks s) (_ ∷ []) (start _) e
 
-  bad : (k : ℕ) → settingsRefusal s ≡ some k → firstMet (tableChecks s c) ≡ some k
+  pub by-size : settingsRefusal s ≡ none → length c ≢ 4 * s .buckets → firstMet (tableChecks s c) ≡ some 5
   unfolding tableChecks
-  bad k e = all-met (settingsChecks s) (_ ∷ []) (start _) e
+  by-size e h = met (all-passed (settingsChecks s) (_ ∷ []) (start _) e) (ap not (ne-eqb (length c) (4 * s .buckets) h))
+
+  pub table-passes : Sound s c → firstMet (tableChecks s c) ≡ none
+  unfolding tableChecks
+  table-passes S = none-left (passed (all-passed (settingsChecks s) (_ ∷ []) (start _) (S .settings)) (ap not (eq-eqb (length c) (4 * s .buckets) (S .size))))
 
   beyond : (more : List Check) → Sound s c → Reached (tableChecks s c ++ more) more
-  unfolding tableChecks
-  beyond more S =
-      all-passed (tableChecks s c) more (start _)
-      (none-left (passed (all-passed (settingsChecks s) (_ ∷ []) (start _) (S .settings)) (ap not (eq-eqb (length c) (4 * s .buckets) (S .size)))))
+  beyond more S = all-passed (tableChecks s c) more (start _) (table-passes S)
 
   first : (more : List Check) {k : ℕ} → firstMet (tableChecks s c) ≡ some k → firstMet (tableChecks s c ++ more) ≡ some k
   first more e = all-met (tableChecks s c) more (start _) e
@@ -101,12 +102,12 @@ module _ (s : Settings) (c : List ℕ) where
 
   pub check-order : CheckOrder s c
   check-order = record {
-    settings = λ a k e. call-first a (bad k e);
-    clear-settings = λ k e. by-clear (bad k e);
-    view-settings = λ b k e. by-view b (view-first b (bad k e));
-    table = λ a e h. call-first a (size e h);
-    clear-table = λ e h. by-clear (size e h);
-    view-table = λ b e h. by-view b (view-first b (size e h));
+    settings = λ a k e. call-first a (by-settings k e);
+    clear-settings = λ k e. by-clear (by-settings k e);
+    view-settings = λ b k e. by-view b (view-first b (by-settings k e));
+    table = λ a e h. call-first a (by-size e h);
+    clear-table = λ e h. by-clear (by-size e h);
+    view-table = λ b e h. by-view b (view-first b (by-size e h));
     scratch = λ t n S h. by-hold t n (short S t n h);
     hold-tag = λ t n S h g. by-hold t n (hold-tag S t n h g);
     release-tag = λ t S g. by-release t (tag S t g);

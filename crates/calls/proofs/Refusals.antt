@@ -1,13 +1,11 @@
 -- The checks of settings and table, and that the table and the model refuse alike: in a table of 4 × M cells 5 is never met.
 -- Assumes nothing.
-use mathlib.Core.Path.{_≡_, refl, sym, ap, _∙_}
-use mathlib.Core.Logic.{_≢_}
-use mathlib.Core.Bool.{not}
+use mathlib.Core.Path.{_≡_, refl, sym, _∙_}
 use mathlib.Core.Option.{Option, none, some}
 use mathlib.Core.List.{List, [], _∷_, _++_}
 use Prim.Native.Nat.{ℕ, _*_, _≤_, _<_}
 use native.Mathlib.Omega.{arith}
-use borrow.Author.Tests.{eq-eqb, ne-eqb, eqb-true, not-false, lt-ltb, le-ltb}
+use borrow.Author.Tests.{eqb-true, not-false, lt-ltb, le-ltb}
 use lib.Dec.{eqb}
 use lib.ListN.{length}
 use Rattle.refusals.specs.Checks.{Check, firstMet, Numbered}
@@ -20,22 +18,19 @@ use Rattle.index.proofs.Checks.{check-laws}
 use Rattle.calls.specs.Calls.{tableChecks, scratchChecks, Sound, taggedChecks, holdChecks}
 use Rattle.calls.specs.Model.{holdOf, releaseOf, lookupOf, modelChecks}
 use Rattle.calls.specs.Laws.{TableCheckLaws}
+use Rattle.calls.proofs.CheckOrder.{by-settings, by-size, table-passes}
 
 module _ (s : Settings) (c : List ℕ) where
-  table-passes : Sound s c → firstMet (tableChecks s c) ≡ none
-  unfolding tableChecks
-  table-passes S = none-left (passed (all-passed (settingsChecks s) (_ ∷ []) (start _) (S .settings)) (ap not (eq-eqb (length c) (4 * s .buckets) (S .size))))
-
   pub table-check-laws : TableCheckLaws s c
   unfolding tableChecks scratchChecks
   table-check-laws = record {
     numbered = numbered-both (settingsChecks s) (_ ∷ []) (check-laws s .numbered) (omega arith, tt);
-    by-settings = λ n e. all-met (settingsChecks s) (_ ∷ []) (start _) e;
-    by-size = λ e h. met (all-passed (settingsChecks s) (_ ∷ []) (start _) e) (ap not (ne-eqb (length c) (4 * s .buckets) h));
+    by-settings = by-settings s c;
+    by-size = by-size s c;
     sound = λ e.
         let q = parts-passed (settingsChecks s) (_ ∷ []) e in
         record { settings = q .0; size = eqb-true (length c) (4 * s .buckets) (not-false (eqb (length c) (4 * s .buckets)) (not-met _ [] (q .1) .0)) };
-    passes = table-passes;
+    passes = table-passes s c;
     scratch-passes = λ n h. none-left (passed (start (scratchChecks s n)) (le-ltb n (2 * s .buckets) h));
     scratch-refused = λ n h. met (start (scratchChecks s n)) (lt-ltb n (2 * s .buckets) h);
   }
@@ -47,7 +42,7 @@ module _ (s : Settings) (c : List ℕ) where
       where
         go : (o : Option ℕ) → firstMet (settingsChecks s) ≡ o → firstMet (tableChecks s c ++ more) ≡ firstMet (settingsChecks s ++ more)
         go none e =
-            all-passed (tableChecks s c) more (start _) (table-passes (record { settings = e; size = size })) .decides
+            all-passed (tableChecks s c) more (start _) (table-passes s c (record { settings = e; size = size })) .decides
             ∙ sym (all-passed (settingsChecks s) more (start _) e .decides)
         go (some n) e = all-met (tableChecks s c) more (start _) (table-check-laws .by-settings n e) ∙ sym (all-met (settingsChecks s) more (start _) e)
 

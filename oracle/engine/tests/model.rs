@@ -209,13 +209,13 @@ fn lists_of_calls() {
     let mut mix = seed::mix(NAME);
     let mut seen = Seen::default();
     for _ in 0..long() {
-        // Narrow fingerprints, so that tags share classes; and some wider ones.
-        for width in [4, 5, 6, 9, 16] {
+        // Narrow fingerprints, so that tags share classes; and wider ones.
+        for width in [4, 5, 6, 12] {
             for settings in all_settings(width) {
                 let cells = 4 * settings.buckets;
                 for kinds in [cells / 3 + 1, 2 * cells, 1 << 20] {
                     let mut sides = Sides::new(settings, cells as usize, &mut mix, &mut seen);
-                    sides.list(40 + 6 * cells, kinds.into());
+                    sides.list(40 + 4 * cells, kinds.into());
                 }
             }
         }
