@@ -10,6 +10,9 @@ use std::os::unix::io::FromRawFd;
 use std::os::unix::net::UnixListener;
 use std::path::{Path, PathBuf};
 use std::process::{Command, Output, Stdio};
+use std::sync::mpsc;
+use std::thread;
+use std::time::Duration;
 
 /// The tool's answers line by line.
 fn answers(output: &Output) -> Vec<String> {
@@ -457,23 +460,31 @@ fn prompt() {
     let folder = Folder::new("prompt");
     let (mut ours, open) = terminal();
     let mut child = command(&folder).stdin(open()).stdout(open()).spawn().expect("the tool starts");
-    let mut seen = String::new();
-    let mut read_to = |ours: &mut File, end: &str| {
-        while !seen.ends_with(end) {
-            let mut bytes = [0; 256];
-            let n = ours.read(&mut bytes).expect("a terminal");
-            seen.push_str(&String::from_utf8_lossy(&bytes[..n]));
+    let mut from = ours.try_clone().expect("a terminal");
+    let (send, parts) = mpsc::channel();
+    thread::spawn(move || {
+        let mut bytes = [0; 256];
+        while let Ok(n) = from.read(&mut bytes) {
+            if send.send(String::from_utf8_lossy(&bytes[..n]).into_owned()).is_err() {
+                break;
+            }
         }
-        std::mem::take(&mut seen)
+    });
+    let read_to = |end: &str| {
+        let mut seen = String::new();
+        while !seen.ends_with(end) {
+            let part = parts.recv_timeout(Duration::from_secs(20));
+            seen.push_str(&part.unwrap_or_else(|_| panic!("no more after {seen:?}")));
+        }
+        seen
     };
-    assert_eq!(read_to(&mut ours, "> "), "> ");
+    assert_eq!(read_to("> "), "> ");
     ours.write_all(b"hold a\n").expect("a terminal");
-    let shown = read_to(&mut ours, "\n> ");
+    let shown = read_to("\n> ");
     assert!(shown.contains("accepted, 0 moves"), "{shown}");
     // the end of the input, as it is typed
     ours.write_all(&[4]).expect("a terminal");
     assert!(child.wait().expect("the tool ends").success());
-    drop(ours);
 
     let (_ours, open) = terminal();
     let output = command(&folder).stdin(Stdio::null()).stdout(open()).output().expect("a run");
