@@ -165,6 +165,7 @@ fn ended(log: &mut Log) -> bool {
         log[tell::REFUSED],
         log[tell::FAILED],
         log[tell::UNWRITTEN],
+        log[tell::UNREAD],
         log[tell::STRICT],
     )
 }
@@ -246,6 +247,14 @@ fn left_of(have: usize, more: bool, state: State) -> Left
     Left { have, more, state }
 }
 
+// Nothing is left of a line that is too long.
+fn left_too_long(log: &mut Log, state: State) -> Left
+    ensures { λ r. ⌜ r .have ≡ 0 ⌝ }
+{
+    let next = too_long(log, state);
+    left_of(0, !ended(log), next)
+}
+
 // Answers what has come, and moves the start of the next line to the front.
 fn take(
     log: &mut Log,
@@ -266,7 +275,7 @@ fn take(
     if left < room.len() {
         return left_of(left, more, answered.state);
     }
-    left_of(0, true, too_long(log, answered.state))
+    left_too_long(log, answered.state)
 }
 
 fn start() -> State {

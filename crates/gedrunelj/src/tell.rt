@@ -243,9 +243,13 @@ fn say_number(n: u64) {
     io::print_decimal(STDERR_FILENO, n);
 }
 
-// Whether the lines end here: no answer can be written, or the first trouble was to be the last.
-pub(crate) fn ends(refused: u64, failed: u64, unwritten: u64, strict: u64) -> bool {
+// Whether the lines end here: no answer can be written, no more can be read, so that the last line may
+// be a part of one, or the first trouble was to be the last.
+pub(crate) fn ends(refused: u64, failed: u64, unwritten: u64, unread: u64, strict: u64) -> bool {
     if unwritten != 0 {
+        return true;
+    }
+    if unread != 0 {
         return true;
     }
     if strict == 0 {

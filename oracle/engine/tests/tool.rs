@@ -5,12 +5,12 @@
 
 use engine::make::{cells, damage, long, one_of, settings, spoil, tag, Cells};
 use engine::run::{command, talk, tool, Files, Folder, WHOLE};
-use oracle::index::{fnv1a, Settings, MASKED, PLAIN, RING};
+use engine::seed::{mix, tell};
+use oracle::index::{Settings, MASKED, PLAIN, RING};
 use oracle::requests::{numbers, to_hex, Mix};
 use oracle::{holdfile, packed, table};
-use std::env;
 use std::fs;
-use std::io::{self, BufRead, BufReader, Write};
+use std::io::{BufRead, BufReader, Write};
 use std::os::unix::fs::{symlink, PermissionsExt};
 use std::process::{Command, Stdio};
 use std::sync::{mpsc, Mutex};
@@ -506,24 +506,6 @@ fn check_lines(name: &str, folder: &Folder, script: &[&str]) -> Vec<String> {
 }
 
 // ── random scripts ──
-
-fn seed() -> u64 {
-    match env::var("HOLDLIST_SEED") {
-        Ok(text) => text.parse().expect("HOLDLIST_SEED is a number"),
-        Err(_) => 1,
-    }
-}
-
-/// Writes a line past the capture of a test that passes.
-fn tell(name: &str, line: &str) {
-    let line = format!("{name}, seed {}{line}\n", seed());
-    let _ = io::stderr().write_all(line.as_bytes());
-}
-
-fn mix(name: &str) -> Mix {
-    tell(name, "");
-    Mix(fnv1a(name.as_bytes()) ^ seed())
-}
 
 /// The bytes with others from a place on.
 fn with(bytes: &[u8], at: usize, others: &[u8]) -> Vec<u8> {
@@ -1169,7 +1151,12 @@ fn moves() {
         maker.line(b"stats");
         assert_eq!(maker.list.longest, 0, "{line}");
     }
-    let got = run(&folder, &maker.script, Way::Input(WHOLE), &maker.list.counts());
+    let got = run(
+        &folder,
+        &maker.script,
+        Way::Input(WHOLE),
+        &maker.list.counts(),
+    );
     compare(name, &maker.script, &maker.said, &got);
 }
 
@@ -1227,7 +1214,7 @@ fn help_names_every_command() {
         "settings", "hold", "release", "lookup", "view", "clear", "save", "load", "pack", "unpack",
         "stats", "help",
     ] {
-        let named = |word: &str| word.trim_matches([',', ';']) == command;
+        let named = |word: &str| word.trim_matches(&[',', ';'][..]) == command;
         assert!(answers[0].split(' ').any(named), "{command}");
     }
 }

@@ -53,7 +53,13 @@ fn failed_load_then_save() {
     let folder = Folder::new("failed load");
     let first = ask(
         &folder,
-        &["settings 0 12 8 0", "hold a", "hold b", "save good", "pack packed"],
+        &[
+            "settings 0 12 8 0",
+            "hold a",
+            "hold b",
+            "save good",
+            "pack packed",
+        ],
     );
     assert_eq!(errors(&first), "");
     let (good, packed) = (folder.get("good"), folder.get("packed"));
@@ -71,7 +77,10 @@ fn failed_load_then_save() {
         ("unpack missing", "pack missing"),
         ("unpack folder", "save good"),
     ] {
-        let output = ask(&folder, &[read, "hold c", write, "save good", "pack packed"]);
+        let output = ask(
+            &folder,
+            &[read, "hold c", write, "save good", "pack packed"],
+        );
         let answers = answers(&output);
         for answer in &answers[2..] {
             assert!(answer.contains("not written: "), "{read}: {answer}");
@@ -85,7 +94,10 @@ fn failed_load_then_save() {
 #[test]
 fn written_again() {
     let folder = Folder::new("written again");
-    ask(&folder, &["settings 0 12 8 0", "hold a", "save good", "pack packed"]);
+    ask(
+        &folder,
+        &["settings 0 12 8 0", "hold a", "save good", "pack packed"],
+    );
     for (line, written) in [
         ("clear", true),
         ("settings 0 12 8 0", true),
@@ -97,12 +109,22 @@ fn written_again() {
         ("load missing", false),
         ("stats", false),
     ] {
-        let lines = ["settings 0 12 8 0", "load missing", line, "save f", "pack g"];
+        let lines = [
+            "settings 0 12 8 0",
+            "load missing",
+            line,
+            "save f",
+            "pack g",
+        ];
         let answers = answers(&ask(&folder, &lines));
         assert_eq!(answers[3].starts_with("saved, "), written, "{line}");
         assert_eq!(answers[4].starts_with("packed, "), written, "{line}");
         for name in ["f", "g"] {
-            assert_eq!(fs::remove_file(folder.path(name)).is_ok(), written, "{line}");
+            assert_eq!(
+                fs::remove_file(folder.path(name)).is_ok(),
+                written,
+                "{line}"
+            );
         }
     }
 }
@@ -113,19 +135,33 @@ fn byte_order_mark() {
     let folder = Folder::new("byte order mark");
     let mark = "\u{feff}";
     for (script, expected) in [
-        (format!("{mark}hold a\nlookup a\n"), "accepted, 0 moves\nheld\n"),
+        (
+            format!("{mark}hold a\nlookup a\n"),
+            "accepted, 0 moves\nheld\n",
+        ),
         (format!("{mark}# first\n"), "# first\n"),
         (format!("{mark}\nhold a"), "\naccepted, 0 moves\n"),
         (mark.to_string(), "\n"),
     ] {
         let output = talk(&mut command(&folder), script.as_bytes(), WHOLE);
-        assert_eq!(String::from_utf8_lossy(&output.stdout), expected, "{script:?}");
+        assert_eq!(
+            String::from_utf8_lossy(&output.stdout),
+            expected,
+            "{script:?}"
+        );
         assert_eq!(errors(&output), "", "{script:?}");
     }
     // Nowhere else, and no part of it.
-    for script in [format!("hold a\n{mark}stats\n"), format!("\n{mark}{mark}stats\n")] {
+    for script in [
+        format!("hold a\n{mark}stats\n"),
+        format!("\n{mark}{mark}stats\n"),
+    ] {
         let output = talk(&mut command(&folder), script.as_bytes(), WHOLE);
-        assert_eq!(errors(&output), "gedrunelj: 0 refused, 1 failed\n", "{script:?}");
+        assert_eq!(
+            errors(&output),
+            "gedrunelj: 0 refused, 1 failed\n",
+            "{script:?}"
+        );
     }
     let output = talk(&mut command(&folder), b"\xef\xbbstats\n", WHOLE);
     assert_eq!(errors(&output), "gedrunelj: 0 refused, 1 failed\n");
@@ -172,8 +208,15 @@ fn strict() {
         }
     }
     let output = talk(command(&folder).arg("--strict"), b"hold a\nnothing", WHOLE);
-    assert_eq!(errors(&output), "gedrunelj: 0 refused, 1 failed; stopped at line 2\n");
-    let output = talk(command(&folder).arg("--strict"), b"hold a\nrelease b\n", WHOLE);
+    assert_eq!(
+        errors(&output),
+        "gedrunelj: 0 refused, 1 failed; stopped at line 2\n"
+    );
+    let output = talk(
+        command(&folder).arg("--strict"),
+        b"hold a\nrelease b\n",
+        WHOLE,
+    );
     assert_eq!((answers(&output).len(), &errors(&output)[..]), (2, ""));
 }
 
@@ -202,7 +245,12 @@ fn statuses() {
         (&["--version"], "", 0),
     ] {
         let (code, output) = status(&folder, args, script);
-        assert_eq!(code, Some(expected), "{args:?} {script:?}: {}", errors(&output));
+        assert_eq!(
+            code,
+            Some(expected),
+            "{args:?} {script:?}: {}",
+            errors(&output)
+        );
         let plain = talk(command(&folder).args(args), script.as_bytes(), WHOLE);
         assert_eq!(output.stdout, plain.stdout, "{args:?} {script:?}");
         assert_eq!(output.stderr, plain.stderr, "{args:?} {script:?}");
@@ -212,7 +260,11 @@ fn statuses() {
     folder.put("ended", b"#!/bin/sh\nkill -9 $$\n");
     let mode = fs::Permissions::from_mode(0o755);
     fs::set_permissions(folder.path("ended"), mode).expect("a mode");
-    for other in ["/bin/true", "/bin/false", &folder.path("ended").to_string_lossy()] {
+    for other in [
+        "/bin/true",
+        "/bin/false",
+        &folder.path("ended").to_string_lossy(),
+    ] {
         let output = talk(wrapped(&folder).env("GEDRUNELJ", other), b"hold a\n", WHOLE);
         assert_eq!(output.status.code(), Some(3), "{other}");
         assert_ne!(errors(&output), "", "{other}");
@@ -223,25 +275,47 @@ fn statuses() {
 #[test]
 fn answers_that_cannot_be_written() {
     let folder = Folder::new("no answers");
-    let full = || OpenOptions::new().write(true).open("/dev/full").expect("/dev/full");
+    let full = || {
+        OpenOptions::new()
+            .write(true)
+            .open("/dev/full")
+            .expect("/dev/full")
+    };
     let script = "hold a\nhold b\nsave f\n";
     folder.put("script", script.as_bytes());
     let ended = |output: &Output, name: &str| {
         assert!(!folder.path("f").exists(), "{name}");
         let told = errors(output);
-        assert!(told.contains("an answer could not be written"), "{name}: {told}");
+        assert!(
+            told.contains("an answer could not be written"),
+            "{name}: {told}"
+        );
     };
-    let output = command(&folder).arg("script").stdout(full()).output().expect("a run");
+    let output = command(&folder)
+        .arg("script")
+        .stdout(full())
+        .output()
+        .expect("a run");
     ended(&output, "full disk");
-    let output = wrapped(&folder).arg("script").stdout(full()).output().expect("a run");
+    let output = wrapped(&folder)
+        .arg("script")
+        .stdout(full())
+        .output()
+        .expect("a run");
     ended(&output, "full disk, wrapped");
     assert_eq!(output.status.code(), Some(1));
     // A descriptor that is closed must not be given to the file that is saved.
     let mut shell = Command::new("sh");
-    shell.args(["-c", r#"exec "$0" script >&-"#]).arg(tool()).current_dir(&folder.0);
+    shell
+        .args(["-c", r#"exec "$0" script >&-"#])
+        .arg(tool())
+        .current_dir(&folder.0);
     ended(&shell.output().expect("a run"), "closed output");
     let mut shell = Command::new("sh");
-    shell.args(["-c", r#"exec "$0" script >&-"#]).arg(wrapper()).current_dir(&folder.0);
+    shell
+        .args(["-c", r#"exec "$0" script >&-"#])
+        .arg(wrapper())
+        .current_dir(&folder.0);
     let output = shell.env("GEDRUNELJ", tool()).output().expect("a run");
     assert_eq!(output.status.code(), Some(1));
     assert!(!errors(&output).is_empty() && !folder.path("f").exists());
@@ -288,7 +362,10 @@ fn rights_are_kept() {
     }
     // Only root may give a file away.
     let mut chown = Command::new("chown");
-    let given = chown.args(["12345:23456", "f"]).current_dir(&folder.0).output();
+    let given = chown
+        .args(["12345:23456", "f"])
+        .current_dir(&folder.0)
+        .output();
     if given.map_or(false, |output| output.status.success()) {
         assert_eq!(errors(&ask(&folder, script)), "");
         let there = fs::metadata(folder.path("f")).expect("a file");
@@ -315,7 +392,10 @@ fn irregular_files() {
     folder.put("target", b"here before");
     symlink("target", folder.path("link")).expect("a link");
     symlink("nowhere", folder.path("dangling")).expect("a link");
-    let made = Command::new("mkfifo").arg(folder.path("pipe")).status().expect("mkfifo");
+    let made = Command::new("mkfifo")
+        .arg(folder.path("pipe"))
+        .status()
+        .expect("mkfifo");
     assert!(made.success());
     let _socket = UnixListener::bind(folder.path("socket")).expect("a socket");
     folder.add_folder("folder");
@@ -336,13 +416,20 @@ fn irregular_files() {
             "folder" => "it is a folder",
             _ => "it is no regular file",
         };
-        assert_eq!(answers[i], format!("line {}: cannot write {name}: {reason}", i + 1));
+        assert_eq!(
+            answers[i],
+            format!("line {}: cannot write {name}: {reason}", i + 1)
+        );
     }
     assert_eq!(errors(&output), "gedrunelj: 0 refused, 10 failed\n");
     assert!(answers[12].starts_with("saved, ") && folder.get("target") != b"here before");
     assert!(folder.path("link").is_symlink() && folder.path("dangling").is_symlink());
     assert!(!folder.path("nowhere").exists());
-    let kind = |name: &str| fs::symlink_metadata(folder.path(name)).expect("a file").file_type();
+    let kind = |name: &str| {
+        fs::symlink_metadata(folder.path(name))
+            .expect("a file")
+            .file_type()
+    };
     assert!(kind("pipe").is_fifo() && kind("socket").is_socket() && kind("folder").is_dir());
     let left = fs::read_dir(&folder.0).expect("a folder").count();
     assert_eq!(left, 6, "nothing else is left there");
@@ -357,6 +444,7 @@ const SHIM: &str = r#"
 #include <stdlib.h>
 #include <string.h>
 #include <sys/stat.h>
+#include <unistd.h>
 static void note(const char *what) {
     FILE *log = fopen(getenv("SHIM_LOG"), "a");
     if (log) { fprintf(log, "%s\n", what); fclose(log); }
@@ -369,36 +457,69 @@ int fsync(int fd) {
     if (fail && strncmp(fail, what, strlen(what)) == 0) { errno = atoi(fail + strlen(what)); return -1; }
     return ((int (*)(int))dlsym(RTLD_NEXT, "fsync"))(fd);
 }
+ssize_t read(int fd, void *bytes, size_t n) {
+    static int reads;
+    const char *most = getenv("SHIM_READS");
+    if (fd == 0 && most && ++reads > atoi(most)) { errno = EIO; return -1; }
+    return ((ssize_t (*)(int, void *, size_t))dlsym(RTLD_NEXT, "read"))(fd, bytes, n);
+}
 int rename(const char *from, const char *to) {
     note("rename");
     return ((int (*)(const char *, const char *))dlsym(RTLD_NEXT, "rename"))(from, to);
 }
 "#;
 
-/// "Saved" is said once the file, and then its new name, are on the disk.
-#[test]
-fn forced_to_the_disk() {
-    let folder = Folder::new("forced");
+/// The library in a folder, as `./shim.so`: a path with blanks in it would be taken for several.
+fn make_shim(folder: &Folder) {
     folder.put("shim.c", SHIM.as_bytes());
-    folder.add_folder("sub");
-    let shim = folder.path("shim.so");
     let made = Command::new("gcc")
         .args(["-shared", "-fPIC", "-O1", "-o"])
-        .args([&shim, &folder.path("shim.c")])
+        .args([folder.path("shim.so"), folder.path("shim.c")])
         .args(["-ldl"])
         .status()
         .expect("gcc");
     assert!(made.success());
+}
+
+/// Commands that cannot be read to their end: what may be a part of a line is not carried out.
+#[test]
+fn unreadable_commands() {
+    let folder = Folder::new("unreadable");
+    make_shim(&folder);
+    for (reads, answered) in [("0", 0), ("1", 1)] {
+        let mut command = command(&folder);
+        command
+            .env("LD_PRELOAD", "./shim.so")
+            .env("SHIM_READS", reads);
+        let output = talk(&mut command, b"settings 0 12 8 0\nsave part", WHOLE);
+        assert_eq!(answers(&output).len(), answered);
+        assert!(errors(&output).contains("the commands cannot be read"));
+        assert!(!folder.path("part").exists());
+    }
+}
+
+/// "Saved" is said once the file, and then its new name, are on the disk.
+#[test]
+fn forced_to_the_disk() {
+    let folder = Folder::new("forced");
+    make_shim(&folder);
+    folder.add_folder("sub");
     let log = folder.path("log");
     let run = |line: &str, fail: &str| {
         let _ = fs::remove_file(&log);
         let mut command = command(&folder);
-        // a path with blanks in it would be taken for several
-        command.env("LD_PRELOAD", "./shim.so").env("SHIM_LOG", &log).env("SHIM_FAIL", fail);
+        command
+            .env("LD_PRELOAD", "./shim.so")
+            .env("SHIM_LOG", &log)
+            .env("SHIM_FAIL", fail);
         let script = format!("settings 0 12 8 0\n{line}\n");
         let output = talk(&mut command, script.as_bytes(), WHOLE);
         let told = fs::read_to_string(&log).expect("the shim is used");
-        (answers(&output)[1].clone(), told.replace('\n', " "), errors(&output))
+        (
+            answers(&output)[1].clone(),
+            told.replace('\n', " "),
+            errors(&output),
+        )
     };
     for (line, said) in [
         ("save f", "saved, 11 bytes"),
@@ -406,14 +527,21 @@ fn forced_to_the_disk() {
         ("pack sub/g", "packed, 44 bytes"),
     ] {
         let (answer, order, errors) = run(line, "");
-        assert_eq!((&answer[..], &order[..]), (said, "file rename folder "), "{line}");
+        assert_eq!(
+            (&answer[..], &order[..]),
+            (said, "file rename folder "),
+            "{line}"
+        );
         assert_eq!(errors, "");
     }
     let whole = format!("save {}", folder.path("sub/h").display());
     assert_eq!(run(&whole, "").1, "file rename folder ");
     // The folder cannot be forced: the file is there, and the doubt is told.
     let (answer, _, errors) = run("save d", "folder5");
-    assert!(answer.starts_with("line 2: written, but a power cut may undo it: "), "{answer}");
+    assert!(
+        answer.starts_with("line 2: written, but a power cut may undo it: "),
+        "{answer}"
+    );
     assert_eq!(errors, "gedrunelj: 0 refused, 1 failed\n");
     assert!(folder.path("d").exists());
     // The file cannot: nothing has changed.
@@ -425,7 +553,10 @@ fn forced_to_the_disk() {
     let (answer, _, errors) = run("pack f", "file122");
     assert_eq!(answer, "line 2: cannot write f: error 122 of the system");
     let (text, counts) = errors.split_once('\n').expect("two lines");
-    assert!(text.starts_with("gedrunelj: ") && text.len() > 16, "{errors}");
+    assert!(
+        text.starts_with("gedrunelj: ") && text.len() > 16,
+        "{errors}"
+    );
     assert_eq!(counts, "gedrunelj: 0 refused, 1 failed\n");
 }
 
@@ -438,34 +569,57 @@ extern "C" {
     fn ptsname(fd: c_int) -> *const c_char;
 }
 
-/// A terminal's two sides.
-fn terminal() -> (File, impl Fn() -> File) {
+/// A terminal's two sides, where the machine has any.
+fn terminal() -> Option<(File, impl Fn() -> File)> {
     let read_write = 2;
     let (ours, name) = unsafe {
         let fd = posix_openpt(read_write);
-        assert!(fd >= 0 && grantpt(fd) == 0 && unlockpt(fd) == 0, "a terminal");
-        let name = CStr::from_ptr(ptsname(fd)).to_str().expect("a path").to_string();
+        if fd < 0 || grantpt(fd) != 0 || unlockpt(fd) != 0 {
+            return None;
+        }
+        let name = CStr::from_ptr(ptsname(fd))
+            .to_str()
+            .expect("a path")
+            .to_string();
         (File::from_raw_fd(fd), name)
     };
     let open = move || {
         let mut options = OpenOptions::new();
-        options.read(true).write(true).custom_flags(0o400).open(&name).expect("a terminal")
+        options
+            .read(true)
+            .write(true)
+            .custom_flags(0o400)
+            .open(&name)
+            .expect("a terminal")
     };
-    (ours, open)
+    Some((ours, open))
 }
 
 /// Whoever types is asked for a line; a pipe at either end is not.
 #[test]
 fn prompt() {
     let folder = Folder::new("prompt");
-    let (mut ours, open) = terminal();
-    let mut child = command(&folder).stdin(open()).stdout(open()).spawn().expect("the tool starts");
+    let (mut ours, open) = match terminal() {
+        Some(both) => both,
+        None => {
+            eprintln!("the prompt: skipped, this machine has no terminals");
+            return;
+        }
+    };
+    let mut child = command(&folder)
+        .stdin(open())
+        .stdout(open())
+        .spawn()
+        .expect("the tool starts");
     let mut from = ours.try_clone().expect("a terminal");
     let (send, parts) = mpsc::channel();
     thread::spawn(move || {
         let mut bytes = [0; 256];
         while let Ok(n) = from.read(&mut bytes) {
-            if send.send(String::from_utf8_lossy(&bytes[..n]).into_owned()).is_err() {
+            if send
+                .send(String::from_utf8_lossy(&bytes[..n]).into_owned())
+                .is_err()
+            {
                 break;
             }
         }
@@ -486,11 +640,22 @@ fn prompt() {
     ours.write_all(&[4]).expect("a terminal");
     assert!(child.wait().expect("the tool ends").success());
 
-    let (_ours, open) = terminal();
-    let output = command(&folder).stdin(Stdio::null()).stdout(open()).output().expect("a run");
+    let (_ours, open) = terminal().expect("another terminal");
+    let output = command(&folder)
+        .stdin(Stdio::null())
+        .stdout(open())
+        .output()
+        .expect("a run");
     assert!(output.status.success());
-    let (mut ours, open) = terminal();
+    let (mut ours, open) = terminal().expect("another terminal");
     ours.write_all(b"hold a\n\x04").expect("a terminal");
-    let output = command(&folder).stdin(open()).stdout(Stdio::piped()).output().expect("a run");
-    assert_eq!(String::from_utf8_lossy(&output.stdout), "accepted, 0 moves\n");
+    let output = command(&folder)
+        .stdin(open())
+        .stdout(Stdio::piped())
+        .output()
+        .expect("a run");
+    assert_eq!(
+        String::from_utf8_lossy(&output.stdout),
+        "accepted, 0 moves\n"
+    );
 }
