@@ -43,7 +43,8 @@ module _ {M : Type 1} (𝓤 : URA M) (H : Heap 𝓤) (A : Atoms 𝓤) (W : Given
   into : (b : ℕ) (h : stat) → ent 𝓤 (Local b h) (sem 𝓤 H A (mem T.the-row .lies h b 0))
   unfolding partOf
   into b h =
-      qed W (‵ (fat fullShare T′.mir b 0 (machine h)) ∷ ‵ (Own h) ∷ []) ∵ use1 W (‵ (cellAt fullShare (T.the-row .mir) (machine h ∷ []) b 0)) (W .laws .at-raw fullShare T′.mir b 0 (machine h)) $
+      qed W (‵ (fat fullShare T′.mir b 0 (machine h)) ∷ ‵ (Own h) ∷ []) ∵
+      use1 W (‵ (cellAt fullShare (T.the-row .mir) (machine h ∷ []) b 0)) (W .laws .at-raw fullShare T′.mir b 0 (machine h)) $
       fjoin ! $ fpack ! (List Val) (λ us. fsep (cellAt fullShare (T.the-row .mir) us b 0) (T.the-row .own h us)) (machine h ∷ []) $ done !
 
   out : (b : ℕ) (h : stat) → ent 𝓤 (sem 𝓤 H A (mem T.the-row .lies h b 0)) (Local b h)
@@ -58,4 +59,5 @@ module _ {M : Type 1} (𝓤 : URA M) (H : Heap 𝓤) (A : Atoms 𝓤) (W : Given
 
   pub gets : (κ : Lft) (γ : GName) (b : ℕ) → ent 𝓤 (sep 𝓤 (A .dead κ) (A .lent κ (Body (mem T.the-row) b 0 γ))) (H .⇛ (ex 𝓤 (Local b)))
   gets κ γ b =
-      qed W (‵ (fdead κ) ∷ ‵ (flent κ (Body (mem T.the-row) b 0 γ)) ∷ []) ∵ updating ! $ lent-back ! tt $ fpick ! (λ z. fsplit ! $ at-once ! $ show ! (Local b) z $ keep ! (0 ∷ []) $ by ! (out b z))
+      qed W (‵ (fdead κ) ∷ ‵ (flent κ (Body (mem T.the-row) b 0 γ)) ∷ []) ∵
+      updating ! $ lent-back ! tt $ fpick ! (λ z. fsplit ! $ at-once ! $ show ! (Local b) z $ keep ! (0 ∷ []) $ by ! (out b z))

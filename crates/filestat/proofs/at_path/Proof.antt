@@ -1,4 +1,6 @@
--- `filestat::at_path` meets its contract: a walk of its MIR, by hand. `st` is lent for a lifetime that is made for the call of `lstat`, and is got back at some value, which `told` is passed. `path` is passed on as it is, with a share of its lifetime's token, which comes back.
+-- `filestat::at_path` meets its contract: a walk of its MIR, by hand. `st` is lent for a lifetime that is made for the call of
+-- `lstat`, and is got back at some value, which `told` is passed. `path` is passed on as it is, with a share of its lifetime's token,
+-- which comes back.
 -- All that it knows of `lstat` and of `told` is that each meets its contract, and of that only that each returns a value of its type.
 -- Assumes nothing.
 use mathlib.Core.Path.{refl}
@@ -109,7 +111,9 @@ module _ {M : Type 1} (𝓤 : URA M) (H : Heap 𝓤) (A : Atoms 𝓤) (W : Given
   abbrev to-lstat : ℕ → GName → ℕ → Lstat 𝓤 H A mem run .Ghost
   to-lstat α γ b = (((κ, (α ∷ [], tt)), (q, (fullShare, tt)), tt, (x, (lent b γ, tt)), (p ∷ [], (vptr b 0 ∷ [], tt))), tt)
 
-  goes-lstat : Ended (x .now) → (α : ℕ) (γ : GName) (b : ℕ) → ent 𝓤 (sep 𝓤 (A .lft (α ∷ []) fullShare) (sep 𝓤 (sem 𝓤 H A (Ref α γ b)) (sep 𝓤 (A .lft κ q) (sem 𝓤 H A Path)))) (Lstat 𝓤 H A mem run .pre (to-lstat α γ b))
+  goes-lstat : Ended (x .now) → (α : ℕ) (γ : GName) (b : ℕ)
+      → ent 𝓤 (sep 𝓤 (A .lft (α ∷ []) fullShare) (sep 𝓤 (sem 𝓤 H A (Ref α γ b)) (sep 𝓤 (A .lft κ q) (sem 𝓤 H A Path))))
+      (Lstat 𝓤 H A mem run .pre (to-lstat α γ b))
   goes-lstat ok α γ b =
       qed W (‵ (flft (α ∷ []) fullShare) ∷ ‵ (Ref α γ b) ∷ ‵ (flft κ q) ∷ ‵ Path ∷ []) ∵ says ! ok $
       nothing ! $ move ! (2 ∷ 0 ∷ []) $ fjoin ! $ move ! (3 ∷ 0 ∷ []) $ fjoin ! $
@@ -117,7 +121,8 @@ module _ {M : Type 1} (𝓤 : URA M) (H : Heap 𝓤) (A : Atoms 𝓤) (W : Given
       nothing ! $ move ! (2 ∷ 0 ∷ []) $ join ! $ move ! (2 ∷ 0 ∷ []) $ join ! $ frame ! $ done !
 
   module _ (C : Calls 𝓤 H) (Λ : Loops 𝓤 H) (fm : FmC 𝓤 H (W .laws) C) (known-lstat : Triple 𝓤 (C #libc·lstat) (Lstat 𝓤 H A mem run)) (known-told : Triple 𝓤 (C #filestat·told) (Told 𝓤 H A mem run)) where
-    walk : Holds (hasTy T′.mir (machine h)) × WT (machine h) → Ended (x .now) → ent 𝓤 (onEntry 𝓤 H A at-path.signature (κ, tt) (q, tt) a vals) (WpFn 𝓤 H C Λ code.function (p ∷ machine h ∷ []) Post)
+    walk : Holds (hasTy T′.mir (machine h)) × WT (machine h) → Ended (x .now)
+        → ent 𝓤 (onEntry 𝓤 H A at-path.signature (κ, tt) (q, tt) a vals) (WpFn 𝓤 H C Λ code.function (p ∷ machine h ∷ []) Post)
     walk wt ok =
         qed W ((‵ (flft κ q) ⊛ ‵ ftrue) ∷ ‵ (owns (ShrRef (named 0) κ Bytes ∷ T.the-row ∷ []) a vals) ∷ []) ∵ enter ! C Λ code.function (p ∷ machine h ∷ []) _ $
         alloc1 ! (λ l₀. alloc1 ! (λ l₁. alloc1 ! (λ l₂. alloc1 ! (λ l₃. alloc1 ! (λ l₄. alloc1 ! (λ l₅. alloc1 ! (λ l₆. alloc0 ! $ params1 ! $
@@ -129,11 +134,14 @@ module _ {M : Type 1} (𝓤 : URA M) (H : Heap 𝓤) (A : Atoms 𝓤) (W : Given
         -- `_3`, which is `st`, is lent for a lifetime α of the call
         -- [α's token; what st owns; true; what path owns; _6; …; _5; …; _4; …; _3; …; _2; …; _1; …; room for _0; …; κ's token]
         lft-new ! tt (λ α. move ! (10 ∷ 1 ∷ []) $
-        use2 W (later (some (λ (γ : GName). ‵ (Ref α γ l₃) ⊛ ‵ (flent (α ∷ []) (Body (lying T.the-row) l₃ 0 γ))))) (lends 𝓤 H A W (named 1) (α ∷ []) h l₃) $ await ! tt $ pick ! (λ γ. split ! $
+        use2 W (later (some (λ (γ : GName). ‵ (Ref α γ l₃) ⊛ ‵ (flent (α ∷ []) (Body (lying T.the-row) l₃ 0 γ))))) (lends 𝓤 H A W (named 1) (α ∷ []) h l₃) $
+        await ! tt $ pick ! (λ γ. split ! $
         move ! (18 ∷ []) $ split ! $ move ! (0 ∷ 6 ∷ []) $ join ! $ move ! (4 ∷ 2 ∷ 0 ∷ []) $ use3 W (raw (Lstat 𝓤 H A mem run .pre (to-lstat α γ l₃))) (goes-lstat ok α γ l₃) $
         -- [what `lstat` asks; true; the lender's part; true; _6; …; _5; …; _4; …; _3's end; _2; …; _1; …; room for _0; …]
-        calls-at ! fm (Lstat 𝓤 H A mem run) known-lstat (to-lstat α γ l₃) (and-then ! (load ! (from ! (stop !)) (look ! 13 refl)) (and-then ! (load ! (from ! (stop !)) (look ! 6 refl)) (no-more !))) (λ w.
-        use1 W (later (some (λ (k : ℤ). ((‵ (flft κ q) ⊛ ‵ (flft (α ∷ []) fullShare) ⊛ ‵ ftrue) ⊛ ‵ (i32 .own k (w ∷ []))) ⊛ raw (ensured 𝓤 H A lstat.ended (lstat.clauses 𝓤 H A mem run) (κ, (α ∷ [], tt)) (x, (lent l₃ γ, tt)) tt k)))) (id⊢ 𝓤 _) $ await ! tt $ pick ! (λ k.
+        calls-at ! fm (Lstat 𝓤 H A mem run) known-lstat (to-lstat α γ l₃)
+        (and-then ! (load ! (from ! (stop !)) (look ! 13 refl)) (and-then ! (load ! (from ! (stop !)) (look ! 6 refl)) (no-more !))) (λ w.
+        use1 W (later (some (λ (k : ℤ). ((‵ (flft κ q) ⊛ ‵ (flft (α ∷ []) fullShare) ⊛ ‵ ftrue) ⊛ ‵ (i32 .own k (w ∷ []))) ⊛ raw (ensured 𝓤 H A lstat.ended (lstat.clauses 𝓤 H A mem run) (κ, (α ∷ [], tt)) (x, (lent l₃ γ, tt)) tt k)))) (id⊢ 𝓤 _) $
+        await ! tt $ pick ! (λ k.
         split ! $ move ! (1 ∷ []) $ drop ! $ split ! $ move ! (1 ∷ []) $
         peeks ! i32 (Is i32) (shows 𝓤 H A i32) k (w ∷ []) (λ is-k. land ! (from ! (stop !)) (init ! 9 refl (sint-lawful 𝓤 H A W w32 .typed k _ is-k .0)) $
         -- the lifetime is ended, and `_3` is got back at some z
@@ -142,13 +150,16 @@ module _ {M : Type 1} (𝓤 : URA M) (H : Heap 𝓤) (A : Atoms 𝓤) (W : Given
         -- [_3; what z owns; true; κ's token; what k owns; true; true; _6; …; _5; …; _4; …; _3's end; _2; …; _1; …; room for _0; …]
         well-typed ! (λ wz. assigns ! (of-opd ! (load ! (from ! (stop !)) (look ! 0 refl))) (from ! (stop !)) (init ! 7 refl wz) $
         move ! (4 ∷ 1 ∷ []) $ use2 W (raw (Told 𝓤 H A mem run .pre (to-told 𝓤 H A mem run k w z))) (goes-told 𝓤 H A W mem run k w z) $
-        calls-at ! fm (Told 𝓤 H A mem run) known-told (to-told 𝓤 H A mem run k w z) (and-then ! (load ! (from ! (stop !)) (look ! 10 refl)) (and-then ! (load ! (from ! (stop !)) (look ! 6 refl)) (no-more !))) (λ u.
-        use1 W (later (some (λ (s : FileStatus). (‵ ftrue ⊛ ‵ (S.the-row .own s (u ∷ []))) ⊛ raw (ensured 𝓤 H A told.ended (told.clauses 𝓤 H A mem run) tt (k, (z, tt)) tt s)))) (id⊢ 𝓤 _) $ await ! tt $ pick ! (λ s.
+        calls-at ! fm (Told 𝓤 H A mem run) known-told (to-told 𝓤 H A mem run k w z)
+        (and-then ! (load ! (from ! (stop !)) (look ! 10 refl)) (and-then ! (load ! (from ! (stop !)) (look ! 6 refl)) (no-more !))) (λ u.
+        use1 W (later (some (λ (s : FileStatus). (‵ ftrue ⊛ ‵ (S.the-row .own s (u ∷ []))) ⊛ raw (ensured 𝓤 H A told.ended (told.clauses 𝓤 H A mem run) tt (k, (z, tt)) tt s)))) (id⊢ 𝓤 _) $
+        await ! tt $ pick ! (λ s.
         split ! $ move ! (1 ∷ []) $ drop ! $ split ! $ drop ! $
         -- [the result; _3; true; κ's token; true; true; _6; …; _5; …; _4; …; _3's end; _2; …; _1; …; room for _0; …]
         peeks ! S.the-row (Is S.the-row) (shows 𝓤 H A S.the-row) s (u ∷ []) (λ is-s. land ! (from ! (stop !)) (init ! 17 refl (LL.lawful S.the-type S′.the-laws 𝓤 H A W .typed s _ is-s .0)) $
         returns ! (look ! 17 refl) $ forget ! 1 refl $ forget ! 6 refl $ forget ! 8 refl $ forget ! 10 refl $ forget ! 13 refl $ forget ! 15 refl $ forget ! 17 refl $
-        move ! (17 ∷ 18 ∷ []) $ free1 ! $ move ! (15 ∷ 16 ∷ []) $ free1 ! $ move ! (13 ∷ 14 ∷ []) $ free1 ! $ move ! (1 ∷ 12 ∷ []) $ free1 ! $ move ! (9 ∷ 10 ∷ []) $ free1 ! $ move ! (7 ∷ 8 ∷ []) $ free1 ! $ move ! (5 ∷ 6 ∷ []) $ free1 ! $ free0 ! $
+        move ! (17 ∷ 18 ∷ []) $ free1 ! $ move ! (15 ∷ 16 ∷ []) $ free1 ! $ move ! (13 ∷ 14 ∷ []) $ free1 ! $ move ! (1 ∷ 12 ∷ []) $ free1 ! $
+        move ! (9 ∷ 10 ∷ []) $ free1 ! $ move ! (7 ∷ 8 ∷ []) $ free1 ! $ move ! (5 ∷ 6 ∷ []) $ free1 ! $ free0 ! $
         keep ! (2 ∷ 0 ∷ []) $ by ! (exits s u))))))))))))))))))
 
 module _ {M : Type 1} (𝓤 : URA M) (H : Heap 𝓤) (A : Atoms 𝓤) (W : Given 𝓤 H A) (mem : Memory → SProp 𝓤) (run : Routine → Fun 𝓤) where
@@ -156,7 +167,8 @@ module _ {M : Type 1} (𝓤 : URA M) (H : Heap 𝓤) (A : Atoms 𝓤) (W : Given
       → Walks 𝓤 H A at-path.ended stayed (WpFn 𝓤 H C Λ code.function) (at-path.clauses 𝓤 H A mem run)
   at-path-walks C Λ fm known-lstat known-told = walked 𝓤 H A at-path.ended stayed (at-path.clauses 𝓤 H A mem run) (WpFn 𝓤 H C Λ code.function)
       (λ κs. (ptr-vals, (LL.vals T.the-type T′.the-laws, tt))) (λ κs. (shr-tells (named 0) (κs .0) Bytes, (LL.tells T.the-type T′.the-laws, tt)))
-      (λ κs qs bounds a g are. needs 𝓤 (Ended (a .0 .now)) _ (λ ok. walk 𝓤 H A W mem run (κs .0) (qs .0) (a .0) (a .1 .0) C Λ fm known-lstat known-told (typed 𝓤 H A W (a .1 .0) (are .1 .0)) ok))
+      (λ κs qs bounds a g are. needs 𝓤 (Ended (a .0 .now)) _
+          (λ ok. walk 𝓤 H A W mem run (κs .0) (qs .0) (a .0) (a .1 .0) C Λ fm known-lstat known-told (typed 𝓤 H A W (a .1 .0) (are .1 .0)) ok))
 
   goes : AllGo 𝓤 H A W 1 (at-path.signature .params) (at-path.ended .kept) stayed
   goes = (goes-dropped 𝓤 H A W 1 (shrRefTo (0 ∷ []) tt (plain (λ _. Bytes))) yes (λ κs x f. refl), (goes-dropped 𝓤 H A W 1 (plain (λ _. T.the-row)) yes (λ κs x f. refl), tt))
@@ -164,7 +176,9 @@ module _ {M : Type 1} (𝓤 : URA M) (H : Heap 𝓤) (A : Atoms 𝓤) (W : Given
 at-path-meets : {M : Type 1} (𝓤 : URA M) (H : Heap 𝓤) (A : Atoms 𝓤) (W : Given 𝓤 H A) (mem : Memory → SProp 𝓤) (run : Routine → Fun 𝓤) (𝓣 : Tables 𝓤 H)
     → Triple 𝓤 (𝓣 .C #libc·lstat) (Lstat 𝓤 H A mem run) → Triple 𝓤 (𝓣 .C #filestat·told) (Told 𝓤 H A mem run)
     → Meets 𝓤 H A at-path.signature (WpFn 𝓤 H (𝓣 .C) (𝓣 .Λ) code.function) (at-path.spec 𝓤 H A mem run)
-at-path-meets 𝓤 H A W mem run 𝓣 known-lstat known-told = walk-meets 𝓤 H A at-path.ended stayed W (goes 𝓤 H A W mem run) (at-path.clauses 𝓤 H A mem run) (WpFn 𝓤 H (𝓣 .C) (𝓣 .Λ) code.function) (WpFn-mono 𝓤 H (W .laws) 𝓣 code.function)
+at-path-meets 𝓤 H A W mem run 𝓣 known-lstat known-told =
+    walk-meets 𝓤 H A at-path.ended stayed W (goes 𝓤 H A W mem run)
+    (at-path.clauses 𝓤 H A mem run) (WpFn 𝓤 H (𝓣 .C) (𝓣 .Λ) code.function) (WpFn-mono 𝓤 H (W .laws) 𝓣 code.function)
     (at-path-walks 𝓤 H A W mem run (𝓣 .C) (𝓣 .Λ) (fmOf 𝓤 H (W .laws) 𝓣) known-lstat known-told)
 
 pub at-path-spec : {M : Type 1} → stated.statement M

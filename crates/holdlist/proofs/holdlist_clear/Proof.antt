@@ -12,7 +12,10 @@ use Rattle.holdlist.proofs.holdlist_clear.Tie as tie
 -- what the call does, under the settings that were lent
 does : (c : tie.After-clear) {r : ClearAnswer} → c .clear .result ≡ r → let a = c .before .before .before .before .args in
     Told saidNumber (clearIs r) (c .clear .last .1 .0) (clearTable (settingsAt (a .settings .now)) (a .table .now))
-does c q = let s = c .before .before in let a = s .before .before .args in told saidNumber clearIs q (c .clear .ensures) (ap (λ (x : Settings). clearTable x (a .table .now)) (s .lent-settings .ensures))
+does c q =
+    let s = c .before .before in
+    let a = s .before .before .args in
+    told saidNumber clearIs q (c .clear .ensures) (ap (λ (x : Settings). clearTable x (a .table .now)) (s .lent-settings .ensures))
 
 returns : tie.Need-returns
 returns c = let t = does (c .before .before .before .before) (c .enum-told .given .1) in (t .number, t .leaves)
