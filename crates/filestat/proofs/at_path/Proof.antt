@@ -168,7 +168,7 @@ module _ {M : Type 1} (𝓤 : URA M) (H : Heap 𝓤) (A : Atoms 𝓤) (W : Given
   at-path-walks C Λ fm known-lstat known-told = walked 𝓤 H A at-path.ended stayed (at-path.clauses 𝓤 H A mem run) (WpFn 𝓤 H C Λ code.function)
       (λ κs. (ptr-vals, (LL.vals T.the-type T′.the-laws, tt))) (λ κs. (shr-tells (named 0) (κs .0) Bytes, (LL.tells T.the-type T′.the-laws, tt)))
       (λ κs qs bounds a g are. needs 𝓤 (Ended (a .0 .now)) _
-          (λ ok. walk 𝓤 H A W mem run (κs .0) (qs .0) (a .0) (a .1 .0) C Λ fm known-lstat known-told (typed 𝓤 H A W (a .1 .0) (are .1 .0)) ok))
+      (λ ok. walk 𝓤 H A W mem run (κs .0) (qs .0) (a .0) (a .1 .0) C Λ fm known-lstat known-told (typed 𝓤 H A W (a .1 .0) (are .1 .0)) ok))
 
   goes : AllGo 𝓤 H A W 1 (at-path.signature .params) (at-path.ended .kept) stayed
   goes = (goes-dropped 𝓤 H A W 1 (shrRefTo (0 ∷ []) tt (plain (λ _. Bytes))) yes (λ κs x f. refl), (goes-dropped 𝓤 H A W 1 (plain (λ _. T.the-row)) yes (λ κs x f. refl), tt))
