@@ -19,7 +19,7 @@ use Rattle.index.specs.Settings.{settingsRefusal}
 use Rattle.index.specs.declared.Settings.{Settings}
 use Rattle.calls.specs.Calls.{tableChecks, Sound}
 use Rattle.calls.proofs.Laws.{table-check-laws}
-use Rattle.file_form.specs.Bytes.{bit0}
+use Rattle.file_form.specs.Bytes.{bit0, bit1, bit2, bit3}
 use Rattle.file_form.specs.Parsed.{Parsed, stop, next, andThen, refuseIf, checked, answerOf}
 use Rattle.file_form.specs.Fields.{bit, anyOf, takeNumber, field, takeFields}
 use Rattle.file_form.specs.Header.{sizes, settingsFrom, defaults, mapChecks, misfits, misfit}
@@ -101,21 +101,42 @@ marks : (w b : ℕ) (more : List ℕ) → 16 ≤ b → readBucket w (b ∷ more)
 unfolding readBucket
 marks w b more h = ap (λ (t : Bool). refuseIf t 13 (readCells w b more)) (le-leb 16 b h)
 
--- its first cell, where that is marked
-first-cell : (w b : ℕ) (l : List ℕ) (n : ℕ) → b < 16 → bit0 b ≡ true → readCell w true l ≡ stop n → readBucket w (b ∷ l) ≡ stop n
-unfolding readBucket readCells
-first-cell w b l n h q e =
-    ap (λ (t : Bool). refuseIf t 13 (readCells w b l)) (lt-leb 16 b h)
-    ∙ stopped (readCell w (bit0 b) l) _ n (ap (λ (t : Bool). readCell w t l) q ∙ e)
+-- its cells, in their order
+module _ (w b n : ℕ) (l : List ℕ) (h : b < 16) where
+  cells : readBucket w (b ∷ l) ≡ readCells w b l
+  unfolding readBucket
+  cells = ap (λ (t : Bool). refuseIf t 13 (readCells w b l)) (lt-leb 16 b h)
 
-print : (w b low high : ℕ) (more : List ℕ) → b < 16 → bit0 b ≡ true → (eqb (low + 256 * high) 0 || leb (2 ^ w) (low + 256 * high)) ≡ true
-    → readBucket w (b ∷ low ∷ high ∷ more) ≡ stop 14
-print w b low high more h q e = first-cell w b (low ∷ high ∷ more) 14 h q (ap (λ (t : Bool). refuseIf t 14 (next (low + 256 * high) more)) e)
+  first : readCell w (bit0 b) l ≡ stop n → readBucket w (b ∷ l) ≡ stop n
+  unfolding readCells
+  first e = cells ∙ stopped (readCell w (bit0 b) l) _ n e
 
-cut-print : (w b : ℕ) (l : List ℕ) → b < 16 → bit0 b ≡ true → length l < 2 → readBucket w (b ∷ l) ≡ stop 11
-cut-print w b [] h q e = first-cell w b [] 11 h q refl
-cut-print w b (low ∷ []) h q e = first-cell w b (low ∷ []) 11 h q refl
-cut-print w b (low ∷ high ∷ l) h q e = absurd (omega arith)
+  module _ (v : ℕ) (r : List ℕ) (e : readCell w (bit0 b) l ≡ next v r) where
+    second : readCell w (bit1 b) r ≡ stop n → readBucket w (b ∷ l) ≡ stop n
+    unfolding readCells
+    second f = cells ∙ onward (readCell w (bit0 b) l) _ v r e ∙ stopped (readCell w (bit1 b) r) _ n f
+
+    module _ (v′ : ℕ) (r′ : List ℕ) (f : readCell w (bit1 b) r ≡ next v′ r′) where
+      third : readCell w (bit2 b) r′ ≡ stop n → readBucket w (b ∷ l) ≡ stop n
+      unfolding readCells
+      third g =
+          cells ∙ onward (readCell w (bit0 b) l) _ v r e ∙ onward (readCell w (bit1 b) r) _ v′ r′ f
+          ∙ stopped (readCell w (bit2 b) r′) _ n g
+
+      fourth : (v″ : ℕ) (r″ : List ℕ) → readCell w (bit2 b) r′ ≡ next v″ r″ → readCell w (bit3 b) r″ ≡ stop n → readBucket w (b ∷ l) ≡ stop n
+      unfolding readCells
+      fourth v″ r″ g k =
+          cells ∙ onward (readCell w (bit0 b) l) _ v r e ∙ onward (readCell w (bit1 b) r) _ v′ r′ f
+          ∙ onward (readCell w (bit2 b) r′) _ v″ r″ g ∙ stopped (readCell w (bit3 b) r″) _ n k
+
+-- a cell that is marked
+print : (w low high : ℕ) (more : List ℕ) → (eqb (low + 256 * high) 0 || leb (2 ^ w) (low + 256 * high)) ≡ true → readCell w true (low ∷ high ∷ more) ≡ stop 14
+print w low high more e = ap (λ (t : Bool). refuseIf t 14 (next (low + 256 * high) more)) e
+
+cut-print : (w : ℕ) (l : List ℕ) → length l < 2 → readCell w true l ≡ stop 11
+cut-print w [] h = refl
+cut-print w (low ∷ []) h = refl
+cut-print w (low ∷ high ∷ l) h = absurd (omega arith)
 
 -- behind k buckets that are sound
 behind : (w k m : ℕ) (l cells at : List ℕ) (n : ℕ) → k < m → readBuckets w k l ≡ next cells at → readBucket w at ≡ stop n → readBuckets w m l ≡ stop n
@@ -165,6 +186,10 @@ answer-order = record {
   buckets = λ bytes c rest cells at s k n head S h e b. by-bucket bytes c rest s head S cells at k n h e b;
   no-marks = no-marks;
   marks = marks;
+  first = λ w b n l h e. first w b n l h e;
+  second = λ w b n v l r h e f. second w b n l h v r e f;
+  third = λ w b n v v′ l r r′ h e f g. third w b n l h v r e v′ r′ f g;
+  fourth = λ w b n v v′ v″ l r r′ r″ h e f g k. fourth w b n l h v r e v′ r′ f v″ r″ g k;
   print = print;
   cut-print = cut-print;
   left-over = λ bytes c rest cells more s b head S e. by-more bytes c rest s head S cells more b e;

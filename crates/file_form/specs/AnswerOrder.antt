@@ -13,11 +13,11 @@ use Rattle.refusals.specs.Outcomes.{refused}
 use Rattle.index.specs.Settings.{settingsRefusal}
 use Rattle.index.specs.declared.Settings.{Settings}
 use Rattle.calls.specs.Calls.{Sound}
-use Rattle.file_form.specs.Bytes.{bit0}
+use Rattle.file_form.specs.Bytes.{bit0, bit1, bit2, bit3}
 use Rattle.file_form.specs.Parsed.{stop, next}
 use Rattle.file_form.specs.Fields.{anyOf, partSize, takeFields}
 use Rattle.file_form.specs.Header.{sizes, settingsFrom, defaults, misfits}
-use Rattle.file_form.specs.Reader.{readHeader, readBucket, readBuckets, readFile}
+use Rattle.file_form.specs.Reader.{readHeader, readCell, readBucket, readBuckets, readFile}
 
 -- how many bytes the fields take that are there
 abbrev pub fieldsLength : List ℕ → ℕ → ℕ
@@ -41,12 +41,19 @@ pub record AnswerOrder : Type 0 where
   -- the buckets in their order: the first that is not sound, whatever follows
   pub buckets : (bytes c rest cells at : List ℕ) (s : Settings) (k n : ℕ) → readHeader bytes ≡ next s rest → Sound s c → k < s .buckets
       → readBuckets (s .width) k rest ≡ next cells at → readBucket (s .width) at ≡ stop n → readFile bytes c .answer ≡ refused n
-  -- in a bucket its byte, whatever fingerprints follow, and then the first of these, whatever follows it
+  -- in a bucket its byte, whatever fingerprints follow
   pub no-marks : (w : ℕ) → readBucket w [] ≡ stop 11
   pub marks : (w b : ℕ) (more : List ℕ) → 16 ≤ b → readBucket w (b ∷ more) ≡ stop 13
-  pub print : (w b low high : ℕ) (more : List ℕ) → b < 16 → bit0 b ≡ true → (eqb (low + 256 * high) 0 || leb (2 ^ w) (low + 256 * high)) ≡ true
-      → readBucket w (b ∷ low ∷ high ∷ more) ≡ stop 14
-  pub cut-print : (w b : ℕ) (l : List ℕ) → b < 16 → bit0 b ≡ true → length l < 2 → readBucket w (b ∷ l) ≡ stop 11
+  -- and then its cells in their order: the first that is not sound, whatever follows
+  pub first : (w b n : ℕ) (l : List ℕ) → b < 16 → readCell w (bit0 b) l ≡ stop n → readBucket w (b ∷ l) ≡ stop n
+  pub second : (w b n v : ℕ) (l r : List ℕ) → b < 16 → readCell w (bit0 b) l ≡ next v r → readCell w (bit1 b) r ≡ stop n → readBucket w (b ∷ l) ≡ stop n
+  pub third : (w b n v v′ : ℕ) (l r r′ : List ℕ) → b < 16 → readCell w (bit0 b) l ≡ next v r → readCell w (bit1 b) r ≡ next v′ r′
+      → readCell w (bit2 b) r′ ≡ stop n → readBucket w (b ∷ l) ≡ stop n
+  pub fourth : (w b n v v′ v″ : ℕ) (l r r′ r″ : List ℕ) → b < 16 → readCell w (bit0 b) l ≡ next v r → readCell w (bit1 b) r ≡ next v′ r′
+      → readCell w (bit2 b) r′ ≡ next v″ r″ → readCell w (bit3 b) r″ ≡ stop n → readBucket w (b ∷ l) ≡ stop n
+  -- a cell that is marked: a fingerprint that is 0 or does not fit the width, and one of which not every byte is there
+  pub print : (w low high : ℕ) (more : List ℕ) → (eqb (low + 256 * high) 0 || leb (2 ^ w) (low + 256 * high)) ≡ true → readCell w true (low ∷ high ∷ more) ≡ stop 14
+  pub cut-print : (w : ℕ) (l : List ℕ) → length l < 2 → readCell w true l ≡ stop 11
   -- bytes that are left over, last of all
   pub left-over : (bytes c rest cells more : List ℕ) (s : Settings) (b : ℕ) → readHeader bytes ≡ next s rest → Sound s c
       → readBuckets (s .width) (s .buckets) rest ≡ next cells (b ∷ more) → readFile bytes c .answer ≡ refused 15
