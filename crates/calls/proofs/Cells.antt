@@ -1,17 +1,18 @@
--- What the scans find: a cell of the buckets that were looked at, or that none of their cells holds the value.
+-- What the scans find: a cell of the buckets that were looked at, or that none of their cells holds the value; and how many are filled.
 -- Assumes nothing.
 use mathlib.Core.Path.{_≡_, refl}
 use mathlib.Core.Logic.{_⊎_, inl, inr, _≢_}
 use mathlib.Core.Bool.{Bool, true, false, cond}
 use mathlib.Core.Option.{Option, none, some}
-use mathlib.Core.List.{List, [], _∷_}
-use Prim.Native.Nat.{ℕ, _+_, _*_, _/_}
+use mathlib.Core.List.{List, [], _∷_, _++_}
+use Prim.Native.Nat.{ℕ, _+_, _*_, _/_, _≤_}
 use native.Mathlib.Omega.{arith}
 use lib.Dec.{eqb, eqb→eq}
+use lib.ListN.{length}
 use Rattle.lemmas.specs.Count.{hit, _among_}
 use Rattle.lemmas.proofs.Count.{T-of, eqb-ne, hit-cases, hit-refl, hit-of, hit-ne, hit-eq}
 use Rattle.calls.specs.Laws.{Finds}
-use Rattle.calls.specs.Cells.{cell, cellsOf, firstHolding, scan, lowestEmpty, orElse, inFirst}
+use Rattle.calls.specs.Cells.{cell, cellsOf, firstHolding, scan, lowestEmpty, orElse, inFirst, filledCount}
 
 -- ── the cells of a bucket are those whose number over 4 is the bucket's ──
 pub cells-of : (b i : ℕ) → i among cellsOf b → i / 4 ≡ b
@@ -72,3 +73,16 @@ first-finds c v f h (b ∷ bs) = go (f b) (h b) (inFirst f bs) (first-finds c v 
     go (some i) g r k = (g .0, omega (arith, g .1))
     go none g (some i) k = (k .0, omega (arith, k .1))
     go none g none k = λ i m. elim (hit-cases (i / 4) b) [ inl e ↦ g i (omega (arith, hit-of (i / 4) b e)) | inr z ↦ k i (omega arith) ]
+
+-- ── how many cells are filled ──
+pub filled-most : (l : List ℕ) → filledCount l ≤ length l
+filled-most [] = omega arith
+filled-most (v ∷ l) = omega (arith, one (eqb v 0), filled-most l)
+  where
+    one : (t : Bool) → cond {A = ℕ} t 0 1 ≤ 1
+    one true = omega arith
+    one false = omega arith
+
+pub filled-append : (l k : List ℕ) → filledCount (l ++ k) ≡ filledCount l + filledCount k
+filled-append [] k = omega arith
+filled-append (v ∷ l) k = omega (arith, filled-append l k)

@@ -12,8 +12,8 @@ use Rattle.index.specs.declared.Settings.{Settings}
 use Rattle.index.proofs.Laws.{laws}
 use Rattle.calls.specs.Cells.{scan, lowestEmpty}
 use Rattle.calls.specs.Search.{Node, found, searchFor}
-use Rattle.calls.specs.Laws.{ScanLaws, QueueLaws, TableCheckLaws, MultisetLaws, CallLaws}
-use Rattle.calls.proofs.Cells.{scan-finds, empty-finds, first-finds}
+use Rattle.calls.specs.Laws.{ScanLaws, FilledLaws, QueueLaws, TableCheckLaws, MultisetLaws, CallLaws}
+use Rattle.calls.proofs.Cells.{scan-finds, empty-finds, first-finds, filled-most, filled-append}
 use Rattle.calls.proofs.Classes.{same-perm}
 use Rattle.calls.proofs.Nodes.{distinct-none, distinct-more, distinct-room}
 use Rattle.calls.proofs.Queue.{Ends, search-ends}
@@ -24,6 +24,9 @@ pub use Rattle.calls.proofs.Refusals.{table-check-laws}
 
 pub scan-laws : ScanLaws
 scan-laws = record { scans = λ c p bs. first-finds c p (scan c p) (scan-finds c p) bs; empties = λ c bs. first-finds c 0 (lowestEmpty c) (empty-finds c) bs }
+
+pub filled-laws : FilledLaws
+filled-laws = record { most = filled-most; append = filled-append }
 
 pub queue-laws : (m : ℕ) → QueueLaws m
 queue-laws m = record { starts = distinct-none m; grows = distinct-more m; room = distinct-room m }

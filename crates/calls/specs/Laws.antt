@@ -1,4 +1,4 @@
--- The laws of the calls' definitions, which the crates above use: what a scan finds, a queue without repeats, the checks of a table, and
+-- The laws of the calls' definitions, which the crates above use: what a scan finds, how many cells are filled, a queue without repeats, the checks of a table, and
 -- how a table and a model that agree go on agreeing. `proofs/Laws.antt` proves them.
 -- Assumes nothing.
 use mathlib.Core.Path.{_≡_}
@@ -17,7 +17,7 @@ use Rattle.refusals.specs.Outcomes.{Answer, Outcome, keeping}
 use Rattle.index.specs.Settings.{settingsRefusal}
 use Rattle.index.specs.Candidates.{Class, classAt}
 use Rattle.index.specs.declared.Settings.{Settings}
-use Rattle.calls.specs.Cells.{cell, scan, lowestEmpty, inFirst}
+use Rattle.calls.specs.Cells.{cell, scan, lowestEmpty, inFirst, filledCount}
 use Rattle.calls.specs.Search.{Node, marked, found, searchFor}
 use Rattle.calls.specs.Calls.{Said, Result, tableChecks, scratchChecks, Sound, fresh, lookupIn, releaseIn, holdIn}
 use Rattle.calls.specs.Multiset.{count, Same}
@@ -34,6 +34,11 @@ Finds c v bs (some i) = (cell c i ≡ v) × ((i / 4) among bs)
 pub record ScanLaws : Type 0 where
   pub scans : (c : List ℕ) (p : ℕ) (bs : List ℕ) → Finds c p bs (inFirst (scan c p) bs)
   pub empties : (c bs : List ℕ) → Finds c 0 bs (inFirst (lowestEmpty c) bs)
+
+-- ── how many cells are filled ──
+pub record FilledLaws : Type 0 where
+  pub most : (l : List ℕ) → filledCount l ≤ length l
+  pub append : (l k : List ℕ) → filledCount (l ++ k) ≡ filledCount l + filledCount k
 
 -- ── a queue of buckets below m, none of them twice ──
 abbrev pub bucketsOf : List Node → List ℕ

@@ -2,5 +2,4 @@
 pub mod Scanning
 pub mod Keywords
 pub mod Choices
-pub mod Digits
 pub mod Shares

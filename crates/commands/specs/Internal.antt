@@ -1,32 +1,10 @@
 -- What only the private functions' contracts speak of.
 -- Assumes nothing.
-use mathlib.Core.Bool.{Bool, true, false, _&&_}
-use mathlib.Core.List.{List, [], _∷_}
 use mathlib.Core.Option.{Option, none, some}
-use Prim.Native.Nat.{ℕ, _+_, _*_}
-use lib.Dec.{eqb}
-use Rattle.commands.specs.Tags.{hexValue, hexDigit}
+use Prim.Native.Nat.{ℕ}
 use Rattle.commands.specs.declared.Decimal.{Decimal}
 
 -- the number that was read
 abbrev pub numberIs : Decimal → Option ℕ
 numberIs (Decimal.Value n) = some n
 numberIs Decimal.None = none
-
--- whether digits stand for bytes
-unfoldable pub hexPasses : List ℕ → Bool
-hexPasses [] = true
-hexPasses (a ∷ []) = false
-hexPasses (a ∷ b ∷ l) = (hexDigit a && hexDigit b) && hexPasses l
-
--- the bytes that they stand for where they do
-unfoldable pub hexPairs : List ℕ → List ℕ
-hexPairs [] = []
-hexPairs (a ∷ []) = []
-hexPairs (a ∷ b ∷ l) = (16 * hexValue a + hexValue b) ∷ hexPairs l
-
--- whether text starts with 0x
-unfoldable pub hexMark : List ℕ → Bool
-hexMark [] = false
-hexMark (a ∷ []) = false
-hexMark (a ∷ b ∷ l) = eqb a 48 && eqb b 120

@@ -1,15 +1,13 @@
-// The lines of the command-line tool: what a line asks for, a tag as it is typed, and the numbers that
-// are told of a list. The tool itself only reads lines, makes the calls and prints their answers.
+// The lines of the command-line tool: what a line asks for, and the numbers that are told of a list. The
+// tool itself only reads lines, makes the calls and prints their answers.
 mod counts;
 mod options;
-mod tags;
 mod words;
 
 pub use counts::longest;
 pub use counts::permille;
 pub use options::option;
 pub use options::without_mark;
-pub use tags::tag;
 pub use words::argument;
 pub use words::parse;
 
@@ -65,13 +63,6 @@ pub enum Choice {
     Version,
     // there is no such option
     Unknown,
-}
-
-// A tag that was typed: its length, the number by which it is refused, or digits that are none.
-pub enum TagAnswer {
-    Is(usize),
-    Refused(u32),
-    NotHex,
 }
 
 // A number that was typed.

@@ -1,9 +1,9 @@
--- What the code uses of the definitions: the laws of the header, and which check refuses a writer.
+-- What the code uses of the definitions: how parts of a reading are inFront, the laws of the header, and which check refuses a writer.
 -- Assumes nothing.
-use mathlib.Core.Path.{_≡_, refl, sym, _∙_, subst}
+use mathlib.Core.Path.{_≡_, refl, sym, ap, _∙_, subst}
 use mathlib.Core.Bool.{Bool, true, false, cond, not}
 use mathlib.Core.Option.{none}
-use mathlib.Core.List.{List, [], _∷_}
+use mathlib.Core.List.{List, [], _∷_, _++_, append-assoc}
 use Prim.Native.Nat.{ℕ, zero, suc, _/_, _≤_, _<_}
 use native.Mathlib.Omega.{arith}
 use borrow.Author.Tests.{leb-false}
@@ -16,8 +16,8 @@ use Rattle.lemmas.proofs.Bytes.{bytes-length}
 use Rattle.refusals.specs.Checks.{firstMet, Numbered}
 use Rattle.index.specs.declared.Settings.{Settings}
 use Rattle.calls.specs.WrittenForms.{anyFrom}
-use Rattle.file_form.specs.Parsed.{next, refuseIf}
-use Rattle.file_form.specs.Fields.{bit, spelled, Fit, partSize, fieldBytes, takeFields}
+use Rattle.file_form.specs.Parsed.{Parsed, stop, next, andThen, refuseIf}
+use Rattle.file_form.specs.Fields.{bit, spelled, Fit, partSize, fieldBytes, field, takeFields}
 use Rattle.file_form.specs.Header.{sizes, valuesOf, settingsFrom, defaults, mapOf, mapChecks}
 use Rattle.file_form.specs.Writer.{header}
 use Rattle.file_form.specs.Reader.{fitting, readFields}
@@ -27,6 +27,28 @@ use Rattle.file_form.proofs.Fields.{fit-length, spelled-same, FieldsBac
 use Rattle.file_form.proofs.Headers.{defaults-fit, fitting-map}
 pub use Rattle.calls.proofs.Writers.{table-passed, write-stopped, write-wide, write-short, write-given}
 
+-- ── parts of a reading ──
+pub field-stands : (t : Bool) (d : ℕ) (read : List ℕ → Parsed ℕ) (l : List ℕ) → t ≡ true → field t d read l ≡ read l
+field-stands true d read l e = refl
+field-stands false d read l e = absurd (let z : _≡_ {A = ℕ} 0 1 = cc in omega arith)
+
+pub field-absent : (t : Bool) (d : ℕ) (read : List ℕ → Parsed ℕ) (l : List ℕ) → t ≡ false → field t d read l ≡ next d l
+field-absent true d read l e = absurd (let z : _≡_ {A = ℕ} 0 1 = cc in omega arith)
+field-absent false d read l e = refl
+
+-- values in front of what a reading gives
+abbrev pub inFront : List ℕ → Parsed (List ℕ) → Parsed (List ℕ)
+inFront front p = andThen p (λ cells end. next (front ++ cells) end)
+
+pub in-front-none : (p : Parsed (List ℕ)) → inFront [] p ≡ p
+in-front-none (stop n) = refl
+in-front-none (next c end) = refl
+
+pub in-front-append : (f g : List ℕ) (p : Parsed (List ℕ)) → inFront (f ++ g) p ≡ inFront f (inFront g p)
+in-front-append f g (stop n) = refl
+in-front-append f g (next c end) = ap (λ (x : List ℕ). next x end) (append-assoc f g c)
+
+-- ── the header ──
 numbered : (m : ℕ) → Numbered (mapChecks m)
 unfolding mapChecks
 numbered m = (omega arith, tt)

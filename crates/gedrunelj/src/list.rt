@@ -12,8 +12,7 @@ use super::tell::print_number;
 use super::tell::print_settings;
 use super::tell::print_with;
 use super::tell::refused;
-use commands::TagAnswer;
-use holdfile::ReadAnswer;
+use file_header::ReadAnswer;
 use holdfile::WriteAnswer;
 use index::Settings;
 use packed::PackAnswer;
@@ -22,6 +21,7 @@ use table::ClearAnswer;
 use table::HoldAnswer;
 use table::LookupAnswer;
 use table::ReleaseAnswer;
+use typed_tags::TagAnswer;
 ghost use mathlib.Core.Path.{_≡_};
 ghost use Rattle.io.specs.Counts.{Counts};
 
@@ -59,7 +59,7 @@ fn lent(s: Settings, cells: &[u16]) -> usize
 fn typed(log: &mut Log, line: u64, text: &[u8], space: &mut [u8; 64]) -> usize
     ensures { λ r. ⌜ Counts r (now (space .exit)) ⌝ }
 {
-    match commands::tag(text, space) {
+    match typed_tags::tag(text, space) {
         TagAnswer::Is(n) => n,
         TagAnswer::Refused(k) => {
             refused(log, k);
@@ -150,13 +150,13 @@ pub(crate) fn lookup(log: &mut Log, state: State, text: &[u8], cells: &[u16]) {
 // ── the list as a whole ──
 
 fn view_lent(log: &mut Log, s: Settings, cells: &[u16], bucket: u32) {
-    let n = table::view_check(s, cells, bucket);
+    let n = bucket_view::view_check(s, cells, bucket);
     if n != 0 {
         refused(log, n);
         return;
     }
     print_with(log, b"bucket ", bucket as u64, b":");
-    print_cells(log, table::view(s, cells, bucket));
+    print_cells(log, bucket_view::view(s, cells, bucket));
     print(log, b"\n");
 }
 
@@ -311,7 +311,7 @@ fn load_lent(log: &mut Log, state: State, bytes: &[u8], cells: &mut [u16]) -> St
 }
 
 fn load_bytes(log: &mut Log, state: State, bytes: &[u8], cells: &mut [u16]) -> State {
-    match holdfile::settings_of(bytes) {
+    match file_header::settings_of(bytes) {
         ReadAnswer::Refused(k) => {
             refused(log, k);
             without_list(state)

@@ -26,6 +26,7 @@ use Rattle.holdfile.specs.Internal.{fieldIs, pairFrom, cellFrom, PrintAt
 use Rattle.file_form.specs.Bytes.{bit0, bit1, bit2, bit3}
 use Rattle.file_form.specs.Parsed.{Parsed, stop, next, andThen, refuseIf, checked, answerOf}
 use Rattle.file_form.specs.Fields.{field}
+use Rattle.file_form.proofs.Laws.{inFront, in-front-append}
 use Rattle.file_form.specs.Reader.{takeByte, takePair, readHeader, readCell, readCells, readBucket, readBuckets, leftOver, afterBuckets, afterHeader, readAll, readFile}
 
 -- ── fields ──
@@ -49,14 +50,6 @@ module _ (l : List ℕ) (at : ℕ) where
       go [] k = refl
       go (x ∷ []) k = refl
       go (x ∷ y ∷ r) k = absurd (omega arith)
-
-pub field-stands : (t : Bool) (d : ℕ) (read : List ℕ → Parsed ℕ) (l : List ℕ) → t ≡ true → field t d read l ≡ read l
-field-stands true d read l e = refl
-field-stands false d read l e = absurd (let z : _≡_ {A = ℕ} 0 1 = cc in omega arith)
-
-pub field-absent : (t : Bool) (d : ℕ) (read : List ℕ → Parsed ℕ) (l : List ℕ) → t ≡ false → field t d read l ≡ next d l
-field-absent true d read l e = absurd (let z : _≡_ {A = ℕ} 0 1 = cc in omega arith)
-field-absent false d read l e = refl
 
 -- a whole that has come to a field: it goes on behind the field, or stops there
 pub record AtField {B : Type 0} (whole : Parsed B) (p : Parsed ℕ) (then : ℕ → List ℕ → Parsed B) : Type 0 where
@@ -263,46 +256,34 @@ module _ (w : ℕ) (l : List ℕ) (at : ℕ) (h : GivesCells (readBucket w (drop
       low false q = opened false q
 
 -- ── buckets ──
--- cells in front of what a reading gives
 -- a part of four cells put into the table: what stands up to its end
 take-part : (t part : List ℕ) (i : ℕ) → i + 4 ≤ length t → length part ≡ 4 → take (i + 4) (putMid i (i + 4 - i) t part) ≡ take i t ++ part
 take-part t part i h four =
     ap (take (i + 4)) (sym (append-assoc (take i t) part (postOf i (i + 4 - i) t)))
     ∙ take-at (take i t ++ part) (postOf i (i + 4 - i) t) (i + 4) (length-append (take i t) part ∙ omega (arith, length-take-le i t (omega arith)))
 
-abbrev pub joined : List ℕ → Parsed (List ℕ) → Parsed (List ℕ)
-joined front p = andThen p (λ cells end. next (front ++ cells) end)
-
-pub joined-nil : (p : Parsed (List ℕ)) → joined [] p ≡ p
-joined-nil (stop n) = refl
-joined-nil (next c end) = refl
-
-pub joined-append : (f g : List ℕ) (p : Parsed (List ℕ)) → joined (f ++ g) p ≡ joined f (joined g p)
-joined-append f g (stop n) = refl
-joined-append f g (next c end) = ap (λ (x : List ℕ). next x end) (append-assoc f g c)
-
-end-joined : (f : List ℕ) (p : Parsed (List ℕ)) → endOf (joined f p) ≡ endOf p
-end-joined f (stop n) = refl
-end-joined f (next c end) = refl
+end-in-front : (f : List ℕ) (p : Parsed (List ℕ)) → endOf (inFront f p) ≡ endOf p
+end-in-front f (stop n) = refl
+end-in-front f (next c end) = refl
 
 module _ (w n : ℕ) (l : List ℕ) (h : 0 < n) where
-  one-more : readBuckets w n l ≡ andThen (readBucket w l) (λ four rest. joined four (readBuckets w (n - 1) rest))
+  one-more : readBuckets w n l ≡ andThen (readBucket w l) (λ four rest. inFront four (readBuckets w (n - 1) rest))
   one-more = go n h
     where
-      opened : (m : ℕ) → readBuckets w (suc m) l ≡ andThen (readBucket w l) (λ four rest. joined four (readBuckets w m rest))
+      opened : (m : ℕ) → readBuckets w (suc m) l ≡ andThen (readBucket w l) (λ four rest. inFront four (readBuckets w m rest))
       opened m = unfold readBuckets in refl
 
-      go : (k : ℕ) → 0 < k → readBuckets w k l ≡ andThen (readBucket w l) (λ four rest. joined four (readBuckets w (k - 1) rest))
+      go : (k : ℕ) → 0 < k → readBuckets w k l ≡ andThen (readBucket w l) (λ four rest. inFront four (readBuckets w (k - 1) rest))
       go zero z = absurd (omega arith)
       go (suc m) z =
           let e : suc m - 1 ≡ m = omega arith in
           rw e (opened m)
 
-  pub bucket-then : (four rest : List ℕ) → readBucket w l ≡ next four rest → readBuckets w n l ≡ joined four (readBuckets w (n - 1) rest)
-  bucket-then four rest e = one-more ∙ ap (λ (p : Parsed (List ℕ)). andThen p (λ four rest. joined four (readBuckets w (n - 1) rest))) e
+  pub bucket-then : (four rest : List ℕ) → readBucket w l ≡ next four rest → readBuckets w n l ≡ inFront four (readBuckets w (n - 1) rest)
+  bucket-then four rest e = one-more ∙ ap (λ (p : Parsed (List ℕ)). andThen p (λ four rest. inFront four (readBuckets w (n - 1) rest))) e
 
   pub bucket-stops : (k : ℕ) → readBucket w l ≡ stop k → readBuckets w n l ≡ stop k
-  bucket-stops k e = one-more ∙ ap (λ (p : Parsed (List ℕ)). andThen p (λ four rest. joined four (readBuckets w (n - 1) rest))) e
+  bucket-stops k e = one-more ∙ ap (λ (p : Parsed (List ℕ)). andThen p (λ four rest. inFront four (readBuckets w (n - 1) rest))) e
 
   -- the first pass: it stops, or has one bucket more
   pub check-stops : (k : ℕ) → stop k ≡ endOf (readBucket w l) → readBuckets w n l ≡ stop k
@@ -321,33 +302,33 @@ module _ (w n : ℕ) (l : List ℕ) (h : 0 < n) where
       go (stop m) q f = absurd (let z : _≡_ {A = ℕ} 0 1 = cc in omega arith)
       go (next four end) q f =
           let same : rest ≡ end = cc in
-          ap (λ (x : List ℕ). endOf (readBuckets w (n - 1) x)) same ∙ sym (ap endOf (bucket-then four end q) ∙ end-joined four (readBuckets w (n - 1) end))
+          ap (λ (x : List ℕ). endOf (readBuckets w (n - 1) x)) same ∙ sym (ap endOf (bucket-then four end q) ∙ end-in-front four (readBuckets w (n - 1) end))
 
   -- the second pass meets no refusal
-  pub passes-first : (front : List ℕ) → GivesCells (joined front (readBuckets w n l)) → GivesCells (readBucket w l)
+  pub passes-first : (front : List ℕ) → GivesCells (inFront front (readBuckets w n l)) → GivesCells (readBucket w l)
   passes-first front p = go (readBucket w l) refl
     where
       go : (r : Parsed (List ℕ)) → readBucket w l ≡ r → GivesCells r
-      go (stop k) e = subst (λ (x : Parsed (List ℕ)). GivesCells (joined front x)) (bucket-stops k e) p
+      go (stop k) e = subst (λ (x : Parsed (List ℕ)). GivesCells (inFront front x)) (bucket-stops k e) p
       go (next four rest) e = tt
 
   -- and has one bucket more in the table
   pub store-turn : (at i end : ℕ) (bytes before part : List ℕ) → l ≡ drop at bytes → i + 4 ≤ length before → length part ≡ 4
       → readBucket w (drop at bytes) ≡ next part (drop end bytes)
-      → joined (take (i + 4) (putMid i (i + 4 - i) before part)) (readBuckets w (n - 1) (drop end bytes)) ≡ joined (take i before) (readBuckets w n l)
+      → inFront (take (i + 4) (putMid i (i + 4 - i) before part)) (readBuckets w (n - 1) (drop end bytes)) ≡ inFront (take i before) (readBuckets w n l)
   store-turn at i end bytes before part e h four k =
-      ap (λ (x : List ℕ). joined x (readBuckets w (n - 1) (drop end bytes))) (take-part before part i h four)
-      ∙ joined-append (take i before) part (readBuckets w (n - 1) (drop end bytes))
-      ∙ ap (joined (take i before)) (sym (bucket-then part (drop end bytes) (ap (readBucket w) e ∙ k)))
+      ap (λ (x : List ℕ). inFront x (readBuckets w (n - 1) (drop end bytes))) (take-part before part i h four)
+      ∙ in-front-append (take i before) part (readBuckets w (n - 1) (drop end bytes))
+      ∙ ap (inFront (take i before)) (sym (bucket-then part (drop end bytes) (ap (readBucket w) e ∙ k)))
 
 pub none-more : (w : ℕ) (l : List ℕ) → readBuckets w 0 l ≡ next [] l
 unfolding readBuckets
 none-more w l = refl
 
-pub store-end : (w left i : ℕ) (l table : List ℕ) (all : Parsed (List ℕ)) → left ≤ 0 → joined (take i table) (readBuckets w left l) ≡ all → i + 4 * left ≡ length table → table ≡ cellsRead all
+pub store-end : (w left i : ℕ) (l table : List ℕ) (all : Parsed (List ℕ)) → left ≤ 0 → inFront (take i table) (readBuckets w left l) ≡ all → i + 4 * left ≡ length table → table ≡ cellsRead all
 store-end w left i l table all h e k =
     let z : left ≡ 0 = omega arith in
-    sym (ap cellsRead (sym e ∙ ap (joined (take i table)) (ap (λ (n : ℕ). readBuckets w n l) z ∙ none-more w l)) ∙ append-nil (take i table) ∙ take-all i table (omega arith))
+    sym (ap cellsRead (sym e ∙ ap (inFront (take i table)) (ap (λ (n : ℕ). readBuckets w n l) z ∙ none-more w l)) ∙ append-nil (take i table) ∙ take-all i table (omega arith))
 
 -- the four cells of a part, stored one after the other
 pub stored : (t : List ℕ) (a b c d : ℕ) → length t ≡ 4 → (t1 t2 t3 t4 : List ℕ) → t1 ≡ set t 0 a → t2 ≡ set t1 1 b → t3 ≡ set t2 2 c → t4 ≡ set t3 3 d → t4 ≡ a ∷ b ∷ c ∷ d ∷ []

@@ -1,4 +1,4 @@
--- The writer's steps: bytes stored one after the other, and the sizes that the first pass adds up.
+-- The writer's steps: parts that may be left out, the sizes that the first pass adds up, and the buckets in a row.
 -- Assumes nothing.
 use mathlib.Core.Path.{_≡_, refl, sym, ap, ap₂, _∙_}
 use mathlib.Core.Bool.{Bool, true, false, cond, _||_}
@@ -8,42 +8,23 @@ use native.Mathlib.Numerals.{add-one}
 use native.Mathlib.Omega.{arith}
 use borrow.Author.Tests.{le-leb, leb-true, leb-false}
 use lib.Dec.{leb}
-use lib.ListN.{length, drop, getD, set, length-append, drop-of-length-le}
-use lib.Seq.{sets, sets-eq, length-sets, drop-cons}
+use lib.ListN.{length, drop, getD, length-append, drop-of-length-le}
+use lib.Seq.{sets, sets-eq, drop-cons}
+use Rattle.lemmas.specs.Stores.{Put}
+use Rattle.lemmas.proofs.Stores.{sets-append, put-nothing}
 use Rattle.refusals.specs.Outcomes.{refused, given, outcome}
 use Rattle.index.specs.declared.Settings.{Settings}
 use Rattle.index.proofs.Laws.{laws}
 use Rattle.calls.specs.Calls.{Sound}
 use Rattle.file_form.specs.Bytes.{where?}
-use Rattle.file_form.specs.Fields.{fieldBytes}
-use Rattle.file_form.specs.Header.{sizes, valuesOf, mapOf}
 use Rattle.calls.specs.WrittenForms.{anyFrom}
 use Rattle.file_form.specs.Writer.{header, filled, bucketBytes, body, fileOf, writeFile}
-use Rattle.holdfile.specs.Internal.{Put, largerOf, bucketBytesAt}
+use Rattle.file_header.specs.Answers.{HeaderPut}
+use Rattle.holdfile.specs.Internal.{largerOf, bucketBytesAt}
 use Rattle.file_form.proofs.Laws.{header-laws}
 use Rattle.file_form.proofs.Laws.{write-short, write-given}
 
--- ── bytes stored one after the other ──
-pub sets-append : (l : List ℕ) (i : ℕ) (a b : List ℕ) → sets l i (a ++ b) ≡ sets (sets l i a) (i + length a) b
-sets-append l i [] b =
-    let e : i + 0 ≡ i = omega arith in
-    rw e refl
-sets-append l i (x ∷ a) b =
-    let e : i + suc (length a) ≡ suc i + length a = omega arith in
-    rw e (sets-append (set l i x) (suc i) a b)
-
-pub put-nothing : (o : List ℕ) (at : ℕ) → Put o o at [] at
-put-nothing o at = record { output = refl; place = omega arith }
-
-pub put-then : {o e f : List ℕ} {at q r : ℕ} {a b : List ℕ} → Put o e at a q → Put e f q b r → Put o f at (a ++ b) r
-put-then {o} {e} {f} {at} {q} {r} {a} {b} k m = record {
-  output = m .output ∙ ap₂ (λ (l : List ℕ) (n : ℕ). sets l n b) (k .output) (k .place) ∙ sym (sets-append o at a b);
-  place = omega (arith, k .place, m .place, length-append a b);
-}
-
-pub put-length : {o e : List ℕ} {at q : ℕ} {a : List ℕ} → Put o e at a q → length e ≡ length o
-put-length {o} {e} {at} {q} {a} k = ap length (k .output) ∙ length-sets o at a
-
+-- ── parts ──
 -- a part that is there, and one that is left out
 pub put-part : {o e : List ℕ} {at r : ℕ} (l : List ℕ) (t : Bool) → t ≡ true → Put o e at l r → Put o e at (where? t l) r
 put-part l true e k = k
@@ -68,11 +49,6 @@ part-stands false l e = absurd (let z : _≡_ {A = ℕ} 0 1 = cc in omega arith)
 
 pub room-for : (l : List ℕ) (t : Bool) (at room : ℕ) → t ≡ true → at + length (where? t l) ≤ room → at + length l ≤ room
 room-for l t at room e h = omega (arith, part-stands t l e)
-
--- the map, and the fields behind it
-pub header-parts : (s : Settings) (ns : List ℕ) (b m : ℕ) (vs : List ℕ) → ns ≡ sizes → b ≡ mapOf s → m ≡ b → vs ≡ valuesOf s → header s ≡ (b ∷ []) ++ fieldBytes ns m vs
-unfolding header
-header-parts s ns b m vs e f g h = rw (e, g, f, h) refl
 
 -- the bytes of the fingerprints
 pub printSizes : List ℕ → ℕ
@@ -113,40 +89,6 @@ body-step c i h = ap body (drop-four c i h)
 pub body-end : (c : List ℕ) (i : ℕ) → length c ≤ i → body (drop i c) ≡ []
 unfolding body
 body-end c i h = ap body (drop-of-length-le c h)
-
--- what is left to store of a whole
-pub record Left (o e : List ℕ) (from at : ℕ) (all rest : List ℕ) : Type 0 where
-  pub output : sets e at rest ≡ sets o from all
-  pub place : at + length rest ≡ from + length all
-  pub long : length e ≡ length o
-
-pub left-all : (o : List ℕ) (from : ℕ) (all : List ℕ) → Left o o from from all all
-left-all o from all = record { output = refl; place = refl; long = refl }
-
-module _ {o e : List ℕ} {from at : ℕ} {all rest : List ℕ} (k : Left o e from at all rest) where
-  pub left-room : (a more : List ℕ) → rest ≡ a ++ more → from + length all ≤ length o → at + length a ≤ length e
-  left-room a more s h = omega (arith, k .place, k .long, ap length s, length-append a more)
-
-  -- a part more, and the rest from there
-  pub left-turn : {f a : List ℕ} {r : ℕ} (more : List ℕ) → Put e f at a r → rest ≡ a ++ more → Left o f from r all more
-  left-turn {f} {a} {r} more p s = record {
-    output = ap₂ (λ (l : List ℕ) (n : ℕ). sets l n more) (p .output) (p .place) ∙ sym (sets-append e at a more) ∙ ap (sets e at) (sym s) ∙ k .output;
-    place = omega (arith, p .place, k .place, ap length s, length-append a more);
-    long = put-length p ∙ k .long;
-  }
-
-  -- the last part
-  pub left-fits : from + length all ≤ length o → at + length rest ≤ length e
-  left-fits h = omega (arith, k .place, k .long)
-
-  pub left-last : {f : List ℕ} {r : ℕ} → Put e f at rest r → Put o f from all r
-  left-last p = record {
-    output = p .output ∙ k .output;
-    place = p .place ∙ k .place;
-  }
-
-  pub left-none : rest ≡ [] → Put o e from all at
-  left-none s = record { output = sym (ap (sets e at) s) ∙ k .output; place = omega (arith, k .place, ap length s) }
 
 -- a larger of two is as wide as either
 or-left : (s t : Bool) → (t ≡ true → s ≡ true) → s ≡ (s || t)
@@ -193,6 +135,13 @@ module _ (c : List ℕ) (i : ℕ) where
 
     pub any-end : length c ≤ i → anyFrom n (drop i c) ≡ false
     any-end h = ap (anyFrom n) (drop-of-length-le c h)
+
+-- the header has been put to an output that has room for it
+pub header-put : {s : Settings} {o e : List ℕ} {n : ℕ} → HeaderPut s o e n → length (header s) ≤ length o → Put o e 0 (header s) n
+header-put {s} {o} k h = record {
+  output = k .output ∙ ap (λ (t : Bool). cond t (sets o 0 (header s)) o) (le-leb (length (header s)) (length o) h);
+  place = omega (arith, k .count);
+}
 
 -- ── what the call answers ──
 pub file-length : (s : Settings) (c : List ℕ) → length (fileOf s c) ≡ length (header s) + length (body c)

@@ -6,24 +6,15 @@ use mathlib.Core.List.{List, []}
 use Prim.Native.Nat.{ℕ, _+_, _*_, _^_, _≤_}
 use lib.Dec.{leb}
 use lib.ListN.{length, take, drop, getD, set}
-use lib.Seq.{sets}
-use Rattle.index.specs.declared.Settings.{Settings}
 use Rattle.calls.specs.WrittenForms.{anyFrom}
 use Rattle.file_form.specs.Writer.{bucketBytes, body}
 use Rattle.file_form.specs.Parsed.{Parsed, stop, next}
 use Rattle.file_form.specs.Reader.{readCell, readBucket}
 use Rattle.holdfile.specs.declared.Size.{Size}
 use Rattle.holdfile.specs.declared.Field.{Field}
-use Rattle.holdfile.specs.declared.Number.{Number}
-use Rattle.holdfile.specs.declared.HeaderRead.{HeaderRead}
 use Rattle.holdfile.specs.declared.Pass.{Pass}
 
 -- ── writing ──
--- these bytes were stored from a place on, and nothing else was
-pub record Put (before after : List ℕ) (at : ℕ) (bytes : List ℕ) (end : ℕ) : Type 0 where
-  pub output : after ≡ sets before at bytes
-  pub place : end ≡ at + length bytes
-
 -- the bytes of the bucket in the four cells from i on
 abbrev pub bucketBytesAt : List ℕ → ℕ → List ℕ
 bucketBytesAt c i = bucketBytes (getD c i 0) (getD c (i + 1) 0) (getD c (i + 2) 0) (getD c (i + 3) 0)
@@ -40,14 +31,6 @@ Sized w c Size.TooWide = anyFrom (2 ^ w) c ≡ true
 abbrev pub fieldIs : List ℕ → Field → Parsed ℕ
 fieldIs l (Field.Value v at) = next v (drop at l)
 fieldIs l Field.Short = stop 11
-
-abbrev pub numberIs : List ℕ → Number → Parsed ℕ
-numberIs l (Number.Value v at) = next v (drop at l)
-numberIs l Number.Short = stop 11
-
-abbrev pub headerIs : List ℕ → HeaderRead → Parsed Settings
-headerIs l (HeaderRead.Fields s at) = next s (drop at l)
-headerIs l (HeaderRead.Refused n) = stop n
 
 abbrev pub passIs : List ℕ → Pass → Parsed (Unit {0})
 passIs l (Pass.End at) = next tt (drop at l)

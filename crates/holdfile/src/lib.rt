@@ -6,28 +6,23 @@ ghost use Prim.Native.Nat.{_+_, _*_, _%_, _^_, _<_, _≤_};
 ghost use lib.Dec.{eqb, leb};
 ghost use lib.ListN.{length, drop};
 ghost use lib.Seq.{sets};
+ghost use Rattle.lemmas.specs.Stores.{Put};
 ghost use Rattle.file_form.specs.Bytes.{pair, nibble as nibbleOf, one as oneOf, where?};
-ghost use Rattle.refusals.specs.Outcomes.{given, unless, outcome, keeping};
-ghost use Rattle.index.specs.Settings.{settingsRefusal};
+ghost use Rattle.refusals.specs.Outcomes.{outcome, keeping};
 ghost use Rattle.file_form.specs.Parsed.{next, answerOf};
 ghost use Rattle.file_form.specs.Fields.{field};
 ghost use Rattle.file_form.specs.Writer.{body, writeFile};
-ghost use Rattle.file_form.specs.Reader.{takeByte, takePair, readBucket, readBuckets, afterHeader, readFile, headerAnswer};
-ghost use Rattle.holdfile.specs.Answers.{writeIs, readIs};
-ghost use Rattle.holdfile.specs.Internal.{fieldIs, PrintAt, FullAt, largerOf, passIs, endOf, GivesCells, cellsRead, CellStored, Put, Sized, bucketBytesAt};
+ghost use Rattle.file_form.specs.Reader.{takeByte, takePair, readBucket, readBuckets, afterHeader, readFile};
+ghost use Rattle.file_header.specs.Answers.{readIs};
+ghost use Rattle.holdfile.specs.Answers.{writeIs};
+ghost use Rattle.holdfile.specs.Internal.{fieldIs, PrintAt, FullAt, largerOf, passIs, endOf, GivesCells, cellsRead, CellStored, Sized, bucketBytesAt};
+use file_header::HeaderRead;
+use file_header::ReadAnswer;
 use index::Settings;
-
-mod header;
 
 // The byte count, or the number of the refusal.
 pub enum WriteAnswer {
     Written(usize),
-    Refused(u32),
-}
-
-// The file's settings, or the number of the refusal.
-pub enum ReadAnswer {
-    Read(Settings),
     Refused(u32),
 }
 
@@ -41,18 +36,6 @@ enum Size {
 enum Field {
     Value(u16, usize),
     Short,
-}
-
-// A field of the header, and the place after it.
-enum Number {
-    Value(u64, usize),
-    Short,
-}
-
-// The settings that a header names and the place after it, or the number of the refusal.
-enum HeaderRead {
-    Fields(Settings, usize),
-    Refused(u32),
 }
 
 // The place after one bucket or more.
@@ -183,11 +166,11 @@ pub fn write(s: Settings, table: &[u16], out: &mut [u8]) -> WriteAnswer
     let Size::Bytes(cells) = body_size(table, width, buckets) else {
         return WriteAnswer::Refused(17);
     };
-    let needed = header::header_size(s) + cells;
+    let needed = file_header::header_size(s) + cells;
     if out.len() < needed {
         return WriteAnswer::Refused(16);
     }
-    let at = header::put_header(out, s);
+    let at = file_header::put_header(s, out);
     put_body(out, at, table);
     WriteAnswer::Written(needed)
 }
@@ -429,33 +412,11 @@ fn read_body(s: Settings, bytes: &[u8], at: usize, table: &mut [u16]) -> ReadAns
     }
 }
 
-// Settings, where they pass their checks.
-fn passing(s: Settings) -> ReadAnswer
-    ensures { λ r. ⌜ readIs r ≡ unless (settingsRefusal s) (given s) ⌝ }
-{
-    let bad = s.refusal();
-    if bad != 0 {
-        return ReadAnswer::Refused(bad);
-    }
-    ReadAnswer::Read(s)
-}
-
-// The settings that a file's header names, where they pass, so that a caller can lend as many cells as the reader asks for. It looks at
-// nothing behind the header, and whatever it refuses the reader refuses with the same number.
-pub fn settings_of(bytes: &[u8]) -> ReadAnswer
-    ensures { λ r. ⌜ readIs r ≡ headerAnswer (now (bytes .entry)) ⌝ }
-{
-    match header::header_at(bytes) {
-        HeaderRead::Refused(k) => ReadAnswer::Refused(k),
-        HeaderRead::Fields(s, _) => passing(s),
-    }
-}
-
 // A file's settings, with its cells in the table. The table is written once the whole file has passed.
 pub fn read(bytes: &[u8], table: &mut [u16]) -> ReadAnswer
     ensures { λ r. ⌜ outcome (readIs r) (now (table .exit)) ≡ readFile (now (bytes .entry)) (now (table .entry)) ⌝ }
 {
-    match header::header_at(bytes) {
+    match file_header::header_at(bytes) {
         HeaderRead::Refused(n) => ReadAnswer::Refused(n),
         HeaderRead::Fields(s, at) => read_body(s, bytes, at, table),
     }

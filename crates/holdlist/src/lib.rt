@@ -15,7 +15,7 @@ ghost use Rattle.packed_form.specs.Writer.{writePacked};
 ghost use Rattle.packed_form.specs.Reader.{readPacked};
 ghost use Rattle.holdlist.specs.Numbers.{settingsAt, numbersOf, minus, signed, itself, saidNumber};
 ghost use Rattle.holdlist.specs.Calls.{settingsAnswer, viewAnswer, printOf, homeOf, candidatesOut, noNumber, settingsOut};
-use holdfile::ReadAnswer;
+use file_header::ReadAnswer;
 use holdfile::WriteAnswer;
 use index::OffsetAnswer;
 use index::Settings;
@@ -213,7 +213,7 @@ pub extern "C" fn holdlist_view_check(settings: &Lent, table: &[u16], bucket: u3
     ensures { λ r. ⌜ r ≡ signed itself (viewAnswer (settingsAt (now (settings .entry))) (now (table .entry)) bucket) ⌝ }
 {
     let s = lent_settings(settings);
-    let seen = table::view_check(s, table, bucket);
+    let seen = bucket_view::view_check(s, table, bucket);
     refused(seen)
 }
 
@@ -249,7 +249,7 @@ pub extern "C" fn holdlist_file_settings(bytes: &[u8], settings: &mut Lent) -> i
     ensures { λ r. ⌜ r ≡ signed noNumber (headerAnswer (now (bytes .entry))) ⌝ }
     ensures { λ r. ⌜ now (settings .exit) ≡ settingsOut (headerAnswer (now (bytes .entry))) (now (settings .entry)) ⌝ }
 {
-    match holdfile::settings_of(bytes) {
+    match file_header::settings_of(bytes) {
         ReadAnswer::Read(s) => hand_out(s, settings),
         ReadAnswer::Refused(k) => refused(k),
     }

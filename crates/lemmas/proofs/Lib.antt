@@ -7,4 +7,5 @@ pub mod Powers
 pub mod Numbers
 pub mod Sums
 pub mod Bytes
+pub mod Stores
 pub mod Digits

@@ -3,3 +3,4 @@ pub mod Count
 pub mod Members
 pub mod Sums
 pub mod Bytes
+pub mod Stores

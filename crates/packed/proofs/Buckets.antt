@@ -18,8 +18,7 @@ use Rattle.lemmas.proofs.Digits.{quotient-below}
 use Rattle.rows.specs.Rows.{Ascends}
 use Rattle.calls.specs.WrittenForms.{anyFrom}
 use Rattle.packed_form.specs.Writer.{sort4, sortBuckets, codeOf, streamOf}
-use Rattle.packed_form.proofs.Codes.{code-below}
-use Rattle.packed_form.proofs.Sort.{sort-ascends, sort-below}
+use Rattle.packed_form.proofs.Laws.{packed-laws}
 use Rattle.packed.specs.Internal.{BucketAsked, BucketAt}
 
 -- ── four cells ──
@@ -59,15 +58,15 @@ module _ {counts : List ℕ} {w : ℕ} {t : List ℕ} {i : ℕ} (A : BucketAsked
 
   pub sorted-asked : Ascends (getD f 0 0) (getD f 1 0) (getD f 2 0) (getD f 3 0) × (getD f 3 0 < 2 ^ w)
   sorted-asked = rw is (
-    sort-ascends (getD t i 0) (getD t (i + 1) 0) (getD t (i + 2) 0) (getD t (i + 3) 0),
-    sort-below (getD t i 0) (getD t (i + 1) 0) (getD t (i + 2) 0) (getD t (i + 3) 0) (2 ^ w)
+    packed-laws .sort-ascends (getD t i 0) (getD t (i + 1) 0) (getD t (i + 2) 0) (getD t (i + 3) 0),
+    packed-laws .sort-below (getD t i 0) (getD t (i + 1) 0) (getD t (i + 2) 0) (getD t (i + 3) 0) (2 ^ w)
         (cell-fits i (omega arith)) (cell-fits (i + 1) (omega arith)) (cell-fits (i + 2) (omega arith)) (cell-fits (i + 3) (omega arith)),
   )
 
   pub bucket-made : {code : ℕ} → code ≡ codeOf w (getD f 0 0) (getD f 1 0) (getD f 2 0) (getD f 3 0) → BucketAt w t i code
   unfolding streamOf sortBuckets
   bucket-made z = record {
-    below = rw z (code-below w (A .width .low) (getD f 0 0) (getD f 1 0) (getD f 2 0) (getD f 3 0) (sorted-asked .0) (sorted-asked .1));
+    below = rw z (packed-laws .code-below w (A .width .low) (getD f 0 0) (getD f 1 0) (getD f 2 0) (getD f 3 0) (sorted-asked .0) (sorted-asked .1));
     first = rw (drop-four t i (A .inside), z, is) refl;
   }
 

@@ -29,9 +29,8 @@ use Rattle.calls.specs.Cells.{filledCount}
 use Rattle.calls.specs.Calls.{Sound}
 use Rattle.packed_form.specs.Writer.{bucketBits, packedLength}
 use Rattle.packed_form.specs.Reader.{bucketFrom, codeChecks, onward, unpack, withCount, readPacked}
-use Rattle.packed_form.proofs.Filled.{filled-most, filled-append}
-use Rattle.packed_form.proofs.Refusals.{read-goes-on}
-use Rattle.packed_form.proofs.Streams.{unpack-more}
+use Rattle.calls.proofs.Laws.{filled-laws}
+use Rattle.packed_form.proofs.Laws.{packed-laws}
 use Rattle.packed.specs.declared.UnpackAnswer.{UnpackAnswer}
 use Rattle.packed.specs.Answers.{unpackIs}
 use Rattle.packed.specs.Internal.{Width, Input, countIn, Passes}
@@ -160,9 +159,10 @@ module _ (w m x : ℕ) where
       shr-shr x (bucketBits w * b) (bucketBits w) ∙ ap (λ (k : ℕ). x / 2 ^ k) (sym e)
 
   coming-next : (b code : ℕ) → b < m → code ≡ from b % 2 ^ bucketBits w → coming b ≡ unless (firstMet (codeChecks w code)) (onward (bucketFrom w code) (coming (b + 1)))
+  unfolding unpack
   coming-next b code h e =
       let k : m - b ≡ suc (m - (b + 1)) = omega arith in
-      ap (λ (n : ℕ). unpack w n (from b)) k ∙ unpack-more w (m - (b + 1)) (from b)
+      ap (λ (n : ℕ). unpack w n (from b)) k
       ∙ ap₂ (λ (c y : ℕ). unless (firstMet (codeChecks w c)) (onward (bucketFrom w c) (unpack w (m - (b + 1)) y))) (sym e) (from-next b)
 
   coming-none : (b : ℕ) → b ≡ m → coming b ≡ unless (firstMet (check 20 (not (eqb (from m) 0)) ∷ [])) (given [])
@@ -222,13 +222,13 @@ module _ {w m x count b : ℕ} (I : CellsCounted w m x count b) where
       passed = by-none (firstMet (codeChecks w code)) (sym (ap unpackIs e) ∙ said)
 
       pub counted-few : count + n ≤ 4 * m
-      counted-few = omega (arith, I .counted, filled-most (I .cells), I .read .size, passed .1, filled-most (bucketFrom w code), four-length w code)
+      counted-few = omega (arith, I .counted, filled-laws .most (I .cells), I .read .size, passed .1, filled-laws .most (bucketFrom w code), four-length w code)
 
       pub counted-more : CellsCounted w m x (count + n) (b + 1)
       counted-more = record {
         cells = I .cells ++ bucketFrom w code;
         read = read-more (I .read) more here (passed .0);
-        counted = omega (arith, I .counted, passed .1, filled-append (I .cells) (bucketFrom w code));
+        counted = omega (arith, I .counted, passed .1, filled-laws .append (I .cells) (bucketFrom w code));
       }
 
   module _ (all : m ≤ b) {set : Bool} (said : set ≡ not (eqb (from w m x m) 0)) where
@@ -292,7 +292,7 @@ module _ {s : Settings} {bytes t : List ℕ} (S : Sound s t) (I : Input s bytes)
   stream = unpack (s .width) (s .buckets) (numberFrom bytes)
 
   pub call-stops : {a : UnpackAnswer} (n : ℕ) → a ≡ UnpackAnswer.Refused n → unpackIs a ≡ countIn stream → outcome (unpackIs a) t ≡ readPacked s bytes t
-  call-stops n e h = ap (λ (b : UnpackAnswer). outcome (unpackIs b) t) e ∙ go stream (sym (ap unpackIs e) ∙ h) ∙ read-goes-on s bytes t S (I .size)
+  call-stops n e h = ap (λ (b : UnpackAnswer). outcome (unpackIs b) t) e ∙ go stream (sym (ap unpackIs e) ∙ h) ∙ packed-laws .read-goes-on s bytes t S (I .size)
     where
       go : (u : Answer (List ℕ)) → refused n ≡ countIn u → outcome (refused n) t ≡ keeping t (withCount u)
       go (refused k) f = ap (λ (x : Answer ℕ). outcome x t) f
@@ -309,4 +309,4 @@ module _ {s : Settings} {bytes t : List ℕ} (S : Sound s t) (I : Input s bytes)
       → outcome (given n) o ≡ readPacked s bytes t
   call-stores n {o} e h f =
       ap (λ (x : Answer ℕ). outcome x o) (sym (ap unpackIs e) ∙ h ∙ ap countIn (sym f))
-      ∙ ap (λ (u : Answer (List ℕ)). keeping t (withCount u)) f ∙ read-goes-on s bytes t S (I .size)
+      ∙ ap (λ (u : Answer (List ℕ)). keeping t (withCount u)) f ∙ packed-laws .read-goes-on s bytes t S (I .size)

@@ -14,7 +14,7 @@ use Rattle.rows.proofs.Rank.{rank-is-row}
 use Rattle.rows.proofs.Rows.{rows-right}
 use Rattle.packed_form.specs.Writer.{high, low, codeOf}
 use Rattle.packed_form.specs.Reader.{bucketFrom}
-use Rattle.packed_form.proofs.Codes.{highs}
+use Rattle.packed_form.proofs.Laws.{packed-laws}
 use Rattle.packed.specs.Internal.{Width}
 
 -- ── shifts and masks ──
@@ -77,7 +77,7 @@ module _ {w : ℕ} (W : Width w) where
         pub code-is : Ascends a b c d → d < 2 ^ w → {row : ℕ} → row ≡ rankOf (high w a) (high w b) (high w c) (high w d) → four * 4096 + row ≡ codeOf w a b c d
         unfolding codeOf
         code-is h k e =
-            let q = highs w (W .low) a b c d h k in
+            let q = packed-laws .highs w (W .low) a b c d h k in
             rw (e4, e3, e2, part-is a, part-is b, part-is c, part-is d, e, rank-is-row _ _ _ _ (q .0) (q .1)) (omega arith)
 
 -- ── four parts of 16 bits ──

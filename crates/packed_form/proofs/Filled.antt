@@ -1,28 +1,15 @@
--- How many cells of a list are filled.
+-- Sorting the buckets changes no count of filled cells.
 -- Assumes nothing.
 use mathlib.Core.Path.{_≡_, refl, sym, ap, _∙_}
-use mathlib.Core.Bool.{Bool, true, false, cond}
-use mathlib.Core.List.{List, [], _∷_, _++_}
-use Prim.Native.Nat.{ℕ, _+_, _*_, _≤_}
-use native.Mathlib.Omega.{arith}
+use mathlib.Core.Bool.{cond}
+use mathlib.Core.List.{List, [], _∷_}
+use Prim.Native.Nat.{ℕ, _+_, _*_}
 use lib.Dec.{eqb}
 use lib.ListN.{length}
 use Rattle.lemmas.specs.Sums.{total}
 use Rattle.calls.specs.Cells.{filledCount}
 use Rattle.packed_form.specs.Writer.{sortBuckets}
 use Rattle.packed_form.proofs.Sort.{sorted-total}
-
-pub filled-most : (l : List ℕ) → filledCount l ≤ length l
-filled-most [] = omega arith
-filled-most (v ∷ l) = omega (arith, one (eqb v 0), filled-most l)
-  where
-    one : (t : Bool) → cond {A = ℕ} t 0 1 ≤ 1
-    one true = omega arith
-    one false = omega arith
-
-pub filled-append : (l k : List ℕ) → filledCount (l ++ k) ≡ filledCount l + filledCount k
-filled-append [] k = omega arith
-filled-append (v ∷ l) k = omega (arith, filled-append l k)
 
 filled-total : (l : List ℕ) → filledCount l ≡ total (λ v. cond (eqb v 0) 0 1) l
 filled-total [] = refl

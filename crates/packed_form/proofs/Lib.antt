@@ -7,3 +7,4 @@ pub mod Streams
 pub mod Keeps
 pub mod Refusals
 pub mod RoundTrip
+pub mod Laws

@@ -16,7 +16,7 @@ use Rattle.calls.specs.Cells.{filledCount}
 use Rattle.packed_form.specs.Writer.{sortBuckets, bucketBits, streamOf, packedLength, packedOf, writePacked}
 use Rattle.packed_form.specs.Reader.{withCount, unpack, readPacked}
 use Rattle.packed_form.specs.RoundTrip.{Packable, PackedIsRead, ReadIsPacked}
-use Rattle.packed_form.proofs.Filled.{filled-most, filled-sorted}
+use Rattle.packed_form.proofs.Filled.{filled-sorted}
 use Rattle.calls.proofs.Writers.{write-given, write-accepted}
 use Rattle.packed_form.proofs.Refusals.{read-goes-on, read-accepted}
 use Rattle.packed_form.proofs.Streams.{Sorted, stream-below, unpack-stream, accepted}
@@ -72,10 +72,6 @@ module _ (s : Settings) (bytes t c : List ℕ) (n : ℕ) (all : AllBytes bytes) 
   makes : (out : List ℕ) → length bytes ≤ length out → writePacked s c out ≡ outcome (given (length bytes)) (bytes ++ drop (length bytes) out)
   unfolding writePacked
   makes out h = rw only (sym (write-given s c bytes out (accepted-packable .sound) (accepted-packable .fits) h))
-
--- the count that the reader answers is at most that of the cells it leaves
-pub read-count : (s : Settings) (bytes t c : List ℕ) (n : ℕ) → readPacked s bytes t ≡ outcome (given n) c → n ≤ length c
-read-count s bytes t c n e = omega (arith, read-accepted s bytes t n c e .count, filled-most c)
 
 pub read-is-packed : ReadIsPacked
 read-is-packed = record { only = λ s bytes t c n a e. only s bytes t c n a e; makes = λ s bytes t c out n a e h. makes s bytes t c n a e out h }

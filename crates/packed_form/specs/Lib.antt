@@ -3,3 +3,4 @@ pub mod Writer
 pub mod Reader
 pub mod RoundTrip
 pub mod Refused
+pub mod Laws

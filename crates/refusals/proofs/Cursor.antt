@@ -119,6 +119,3 @@ module _ {A B : Type 0} {o : Option ℕ} (b : B) (a : Answer (Done A B)) where
 module _ {A B : Type 0} (b : B) (a : Answer (Done A B)) where
   pub number-refuses : (l more : List Check) {n : ℕ} → n ≡ numberOf (firstMet l) → n ≢ 0 → outcome (refused n) b ≡ keeping b (unless (firstMet (l ++ more)) a)
   number-refuses l more e h = call-refused b a (all-met l more (start (l ++ more)) (number-met l e h))
-
-  pub checks-go-on : (l more : List Check) → firstMet l ≡ none → keeping b (unless (firstMet more) a) ≡ keeping b (unless (firstMet (l ++ more)) a)
-  checks-go-on l more e = sym (ap (λ (o : Option ℕ). keeping b (unless o a)) (all-passed l more (start (l ++ more)) e .decides))

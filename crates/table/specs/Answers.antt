@@ -3,12 +3,12 @@
 use mathlib.Core.Path.{_≡_}
 use mathlib.Core.Option.{some}
 use mathlib.Core.List.{List}
-use Prim.Native.Nat.{ℕ, _+_, _*_}
+use Prim.Native.Nat.{ℕ}
 use lib.ListN.{length}
 use Rattle.refusals.specs.Checks.{firstMet}
 use Rattle.refusals.specs.Outcomes.{Answer, refused, given, outcome}
 use Rattle.index.specs.declared.Settings.{Settings}
-use Rattle.calls.specs.Calls.{Said, cleared, held, clear, released, absent, accepted, hold, holdChecks, viewed, viewNumber}
+use Rattle.calls.specs.Calls.{Said, cleared, held, clear, released, absent, accepted, hold, holdChecks}
 use Rattle.table.specs.declared.ClearAnswer.{ClearAnswer}
 use Rattle.table.specs.declared.LookupAnswer.{LookupAnswer}
 use Rattle.table.specs.declared.ReleaseAnswer.{ReleaseAnswer}
@@ -31,12 +31,6 @@ releaseIs (ReleaseAnswer.Refused n) = refused n
 abbrev pub holdIs : HoldAnswer → Answer Said
 holdIs (HoldAnswer.Accepted n) = given (accepted n)
 holdIs (HoldAnswer.Refused n) = refused n
-
--- a view: the bucket's four cells, none where it is refused; and where it is good they are the caller's own, eight bytes for each bucket
--- before them behind the table's start. A place is a block of memory and a byte in it
-pub record Views (s : Settings) (c : List ℕ) (b : ℕ) (table part : ℕ × ℕ) (cells : List ℕ) : Type 0 where
-  pub values : cells ≡ viewed s c b
-  pub place : viewNumber s c b ≡ 0 → part ≡ (table .0, table .1 + 2 * (4 * b))
 
 -- a hold: its answer and every cell, and scratch as it was where a check refused the call
 pub record Holds (r : HoldAnswer) (s : Settings) (c c′ w w′ tag : List ℕ) : Type 0 where

@@ -1,15 +1,13 @@
-// The table of a cuckoo filter: clear, lookup, release, hold and the bucket view over cells that the
-// caller lends. Bucket b is cells 4b to 4b + 3, and 0 is an empty cell.
+// The table of a cuckoo filter: clear, lookup, release and hold over cells that the caller lends. Bucket b is cells 4b to 4b + 3, and 0 is an empty cell.
 ghost use mathlib.Core.Path.{_≡_};
-ghost use denote.Ref.{ptr};
 ghost use Prim.Native.Nat.{ℕ, _+_, _*_, _%_, _<_, _≤_};
 ghost use lib.ListN.{length, take, set};
 ghost use Rattle.lemmas.specs.Count.{_among_};
 ghost use Rattle.refusals.specs.Checks.{firstMet, numberOf};
 ghost use Rattle.refusals.specs.Outcomes.{outcome};
 ghost use Rattle.calls.specs.Cells.{scan as scanOf, inFirst, filledCount};
-ghost use Rattle.calls.specs.Calls.{tableChecks, clearTable, lookup as lookupOf, release as releaseOf, viewNumber};
-ghost use Rattle.table.specs.Answers.{clearIs, lookupIs, releaseIs, Views};
+ghost use Rattle.calls.specs.Calls.{tableChecks, clearTable, lookup as lookupOf, release as releaseOf};
+ghost use Rattle.table.specs.Answers.{clearIs, lookupIs, releaseIs};
 ghost use Rattle.table.specs.Internal.{placeIs};
 use index::CandidateList;
 use index::Settings;
@@ -206,32 +204,4 @@ pub fn release(s: Settings, table: &mut [u16], tag: &[u8]) -> ReleaseAnswer
             }
         }
     }
-}
-
-// The number that refuses a view, 0 where the bucket can be seen.
-pub fn view_check(s: Settings, table: &[u16], bucket: u32) -> u32
-    ensures { λ r. ⌜ r ≡ viewNumber s (now (table .entry)) bucket ⌝ }
-{
-    let n = table_refusal(s, table);
-    if n != 0 {
-        return n;
-    }
-    let m = s.buckets;
-    if bucket >= m {
-        return 8;
-    }
-    0
-}
-
-// The four cells of a bucket, none where view_check refuses.
-pub fn view(s: Settings, table: &[u16], bucket: u32) -> &[u16]
-    ensures { λ r. ⌜ Views s (now (table .entry)) bucket (ptr (table .entry)) (ptr r) (now r) ⌝ }
-{
-    let n = view_check(s, table, bucket);
-    if n != 0 {
-        return &table[0..0];
-    }
-    let a = 4 * (bucket as usize);
-    let e = a + 4;
-    &table[a..e]
 }

@@ -332,11 +332,11 @@ fn answer_lookup(s: index::Settings, cells: &[u16], tag: &[u8]) {
 
 // A refused view is empty, so that nothing comes after the number.
 fn answer_view(s: index::Settings, cells: &[u16], bucket: u32) {
-    let n = table::view_check(s, cells, bucket);
+    let n = bucket_view::view_check(s, cells, bucket);
     if n != 0 {
         print_refusal(n);
     }
-    print_cells(table::view(s, cells, bucket));
+    print_cells(bucket_view::view(s, cells, bucket));
 }
 
 // One more hold in what the holds said.

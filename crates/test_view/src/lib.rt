@@ -32,7 +32,7 @@ pub extern "C" fn test_view_cell(
         buckets,
         mask,
     };
-    let part = table::view(s, table, bucket);
+    let part = bucket_view::view(s, table, bucket);
     let k = i as usize;
     if k >= part.len() {
         return 65536;

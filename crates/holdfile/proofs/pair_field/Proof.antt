@@ -1,7 +1,7 @@
 use borrow.Author.Needs.{needs}
 use lib.ListN.{drop}
 use mathlib.Core.Path.{sym, _∙_}
-use Rattle.holdfile.proofs.Reading.{field-stands, field-absent}
+use Rattle.file_form.proofs.Laws.{field-stands, field-absent}
 use Rattle.holdfile.proofs.pair_field.Statement.{statement}
 use Rattle.holdfile.proofs.pair_field.Tie as tie
 use Rattle.file_form.specs.Reader.{takePair}

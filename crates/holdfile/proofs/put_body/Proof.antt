@@ -2,7 +2,8 @@ use Prim.Native.Nat.{_+_, _-_, _%_, _≤_}
 use lib.ListN.{length, drop}
 use mathlib.Core.Path.{_≡_, refl}
 use native.Mathlib.Omega.{arith}
-use Rattle.holdfile.proofs.Writing.{Left, left-all, left-room, left-turn, left-none, body-step, body-end}
+use Rattle.lemmas.proofs.Stores.{Left, left-all, left-room, left-turn, left-none}
+use Rattle.holdfile.proofs.Writing.{body-step, body-end}
 use Rattle.holdfile.proofs.put_body.Statement.{statement}
 use Rattle.holdfile.proofs.put_body.Tie as tie
 use Rattle.holdfile.specs.Internal.{bucketBytesAt}

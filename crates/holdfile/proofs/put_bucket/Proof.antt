@@ -4,7 +4,7 @@ use lib.ListN.{getD}
 use mathlib.Core.List.{List, [], _∷_}
 use mathlib.Core.Path.{refl, sym, ap}
 use Rattle.file_form.specs.Writer.{cellBytes, prints}
-use Rattle.holdfile.proofs.Writing.{Left, left-all, left-room, left-turn, left-none}
+use Rattle.lemmas.proofs.Stores.{Left, left-all, left-room, left-turn, left-none}
 use Rattle.holdfile.proofs.put_bucket.Statement.{statement}
 use Rattle.holdfile.proofs.put_bucket.Tie as tie
 use Rattle.holdfile.specs.Internal.{bucketBytesAt}

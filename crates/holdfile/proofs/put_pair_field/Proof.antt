@@ -2,7 +2,8 @@ use Prim.Native.Nat.{_+_, _≤_}
 use borrow.Author.Needs.{needs}
 use lib.ListN.{length}
 use native.Mathlib.Omega.{arith}
-use Rattle.holdfile.proofs.Writing.{room-for, put-part, put-no-part, put-then}
+use Rattle.lemmas.proofs.Stores.{put-then}
+use Rattle.holdfile.proofs.Writing.{room-for, put-part, put-no-part}
 use Rattle.holdfile.proofs.put_pair_field.Statement.{statement}
 use Rattle.holdfile.proofs.put_pair_field.Tie as tie
 use Rattle.file_form.specs.Bytes.{pair}

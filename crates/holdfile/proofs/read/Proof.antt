@@ -4,7 +4,7 @@ use mathlib.Core.Path.{refl, sym, ap, _∙_}
 use Rattle.holdfile.proofs.Reading.{file-read}
 use Rattle.holdfile.proofs.read.Statement.{statement}
 use Rattle.holdfile.proofs.read.Tie as tie
-use Rattle.holdfile.specs.Internal.{headerIs}
+use Rattle.file_header.specs.Answers.{headerIs}
 use Rattle.file_form.specs.Parsed.{stop, next}
 
 returns : tie.Need-returns

@@ -5,7 +5,8 @@ use borrow.Author.Needs.{needs}
 use lib.ListN.{length, take, drop}
 use mathlib.Core.Path.{_≡_, refl, sym, _∙_, subst}
 use native.Mathlib.Omega.{arith}
-use Rattle.holdfile.proofs.Reading.{joined, joined-nil, passes-first, store-turn, store-end}
+use Rattle.file_form.proofs.Laws.{inFront, in-front-none}
+use Rattle.holdfile.proofs.Reading.{passes-first, store-turn, store-end}
 use Rattle.holdfile.proofs.store_buckets.Statement.{statement}
 use Rattle.holdfile.proofs.store_buckets.Tie as tie
 use Rattle.holdfile.specs.Internal.{GivesCells}
@@ -13,7 +14,7 @@ use Rattle.file_form.specs.Reader.{readBuckets}
 
 abbrev Inv-loop : tie.InvT-loop
 Inv-loop bytes from width count table₀ at₀ i₀ left₀ table at i left =
-    (joined (take i table) (readBuckets width left (drop at bytes)) ≡ readBuckets width count (drop from bytes)) × (i + 4 * left ≡ length table) × (length table ≡ length table₀)
+    (inFront (take i table) (readBuckets width left (drop at bytes)) ≡ readBuckets width count (drop from bytes)) × (i + 4 * left ≡ length table) × (length table ≡ length table₀)
 
 abbrev μ-loop : tie.MeasureT-loop
 μ-loop bytes from width count table₀ at₀ i₀ left₀ table at i left = left
@@ -25,7 +26,7 @@ four i t h = mid-len i (i + 4) t h ∙ omega arith
 loop-holds : tie.Need-loop-holds Inv-loop μ-loop
 loop-holds c =
     let s = c .before .before in
-    (joined-nil (readBuckets (s .args .width) (s .args .count) (drop (s .args .from) (s .args .bytes .now))), omega (arith, s .pre .1), refl)
+    (in-front-none (readBuckets (s .args .width) (s .args .count) (drop (s .args .from) (s .args .bytes .now))), omega (arith, s .pre .1), refl)
 
 add-e : tie.Need-add-e Inv-loop μ-loop
 add-e c = let l = c .before .loop in omega (arith, l .inv .1, c .loop-test .taken, l .inv .2, c .before .before .before .before .good)

@@ -9,7 +9,9 @@ use Rattle.file_form.specs.Writer.{header, body, fileOf, writeFile}
 use Rattle.file_form.proofs.Laws.{table-passed, write-stopped, write-wide}
 use Rattle.holdfile.specs.declared.Size.{Size}
 use Rattle.holdfile.specs.Internal.{Sized}
-use Rattle.holdfile.proofs.Writing.{answer-16, answer-written, needed-fits, put-length}
+use Rattle.lemmas.specs.Stores.{Put}
+use Rattle.lemmas.proofs.Stores.{put-length}
+use Rattle.holdfile.proofs.Writing.{answer-16, answer-written, needed-fits, header-put}
 use Rattle.holdfile.proofs.write.Statement.{statement}
 use Rattle.holdfile.proofs.write.Tie as tie
 
@@ -50,9 +52,6 @@ returns-2 c =
     let wide = subst (Sized (a .s .width) (a .table .now)) (c .enum-told .given .1) (c .before .before .body-size .ensures) in
     write-wide (a .s) (a .table .now) (fileOf (a .s) (a .table .now)) (a .out .now) (passes e) wide
 
-header-size-requires : tie.Need-header-size-requires
-header-size-requires c κs = passes (checked (c .before)) .settings
-
 add-needed : tie.Need-add-needed
 add-needed c = omega (arith, needed c, needed-fits _ _ (passes (checked (sized c))))
 
@@ -62,17 +61,16 @@ returns-3 c =
     let e = checked k in
     answer-16 _ _ (passes e) (start e .args .out .now) (size k .0) _ (needed (c .before)) (c .if2 .taken)
 
-put-header-requires : tie.Need-put-header-requires
-put-header-requires c κs =
-    let h = c .before .before in
-    (passes (checked (sized h)) .settings, omega (arith, needed h, c .before .if2 .left))
+-- the header stands in front
+put : (c : tie.After-put-header) → let h = c .before .before .before in let a = start (checked (sized h)) .args in Put (a .out .now) (c .put-header .last .1 .0) 0 (header (a .s)) (c .put-header .result)
+put c = let o = c .before .before in header-put (c .put-header .ensures) (omega (arith, needed (o .before), o .if2 .left))
 
 put-body-requires : tie.Need-put-body-requires
 put-body-requires c κs =
     let p = c .before .before .before in
     let o = p .before .before in
     let h = o .before in
-    let k = p .put-header .ensures in
+    let k = put p in
     (omega (arith, passes (checked (sized h)) .size), omega (arith, needed h, o .if2 .left, k .place, put-length k))
 
 returns-4 : tie.Need-returns-4
@@ -82,7 +80,7 @@ returns-4 c =
     let o = p .before .before in
     let h = o .before in
     let e = checked (sized h) in
-    answer-written _ _ (passes e) (start e .args .out .now) (size (sized h) .0) _ (needed h) (o .if2 .left) (p .put-header .last .0) _ _ (p .put-header .ensures) (b .put-body .ensures)
+    answer-written _ _ (passes e) (start e .args .out .now) (size (sized h) .0) _ (needed h) (o .if2 .left) (p .put-header .last .1 .0) _ _ (put p) (b .put-body .ensures)
 
 pub write-spec : {M : Type 1} → statement M
 write-spec =
@@ -95,10 +93,10 @@ write-spec =
     (λ c. search needs)
     (λ c. search needs)
     returns-2
-    header-size-requires
+    (λ c κs. search needs)
     add-needed
     returns-3
-    put-header-requires
+    (λ c κs. search needs)
     put-body-requires
     (λ c. search needs)
     returns-4)

@@ -4,8 +4,8 @@ use mathlib.Core.List.{List}
 use Prim.Native.Nat.{ℕ}
 use Rattle.refusals.specs.Outcomes.{Outcome}
 use Rattle.index.specs.declared.Settings.{Settings}
-use Rattle.holdfile.specs.Answers.{readIs}
-use Rattle.holdfile.specs.declared.ReadAnswer.{ReadAnswer}
+use Rattle.file_header.specs.Answers.{readIs}
+use Rattle.file_header.specs.declared.ReadAnswer.{ReadAnswer}
 use Rattle.file_form.specs.Reader.{readFile}
 use Rattle.holdlist.specs.Calls.{noNumber, settingsOut}
 use Rattle.holdlist.proofs.Crossing.{crosses, Told, told, places}

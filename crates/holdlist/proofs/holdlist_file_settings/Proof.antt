@@ -1,6 +1,6 @@
 use borrow.Author.Needs.{needs}
 use mathlib.Core.Path.{refl, _∙_}
-use Rattle.holdfile.specs.Answers.{readIs}
+use Rattle.file_header.specs.Answers.{readIs}
 use Rattle.holdlist.specs.Calls.{noNumber}
 use Rattle.holdlist.proofs.Crossing.{crosses, answered, places}
 use Rattle.holdlist.proofs.holdlist_file_settings.Statement.{statement}

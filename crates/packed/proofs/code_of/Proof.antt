@@ -3,7 +3,7 @@ use borrow.Author.Needs.{needs}
 use native.Mathlib.Omega.{arith}
 use Rattle.rows.proofs.Rank.{rank-small}
 use Rattle.rows.specs.Rows.{Ascends}
-use Rattle.packed_form.proofs.Codes.{highs}
+use Rattle.packed_form.proofs.Laws.{packed-laws}
 use Rattle.packed_form.specs.Writer.{high}
 use Rattle.packed.proofs.Words.{shifted-one, part-below, one-below, two-below, three-below, four-below, code-is}
 use Rattle.packed.proofs.code_of.Statement.{statement}
@@ -11,7 +11,7 @@ use Rattle.packed.proofs.code_of.Tie as tie
 
 -- the high nibbles ascend too
 asked : (s : tie.Start) → let a = s .args in Ascends (high (a .w) (a .a)) (high (a .w) (a .b)) (high (a .w) (a .c)) (high (a .w) (a .d)) × (high (a .w) (a .d) < 16)
-asked s = highs _ (s .pre .1 .low) _ _ _ _ (s .pre .2) (s .pre .3)
+asked s = packed-laws .highs _ (s .pre .1 .low) _ _ _ _ (s .pre .2) (s .pre .3)
 
 few : (c : tie.After-above3) → c .above3 .result < 2 ^ 48
 few c =

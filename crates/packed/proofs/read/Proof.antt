@@ -2,7 +2,7 @@ use borrow.Author.Needs.{needs}
 use native.Mathlib.Omega.{arith}
 use Rattle.calls.specs.Calls.{Sound}
 use Rattle.calls.proofs.Writers.{table-passed}
-use Rattle.packed_form.proofs.Refusals.{read-stopped, read-short, read-long}
+use Rattle.packed_form.proofs.Laws.{packed-laws}
 use Rattle.packed.proofs.Reading.{call-stops, call-passes, call-stores}
 use Rattle.packed.specs.Internal.{Input}
 use Rattle.packed.proofs.read.Statement.{statement}
@@ -20,16 +20,16 @@ input c =
     record { settings = passes (l .before) .settings; size = omega (arith, l .packed-length .ensures, e .if2 .left, c .if3 .left) }
 
 returns : tie.Need-returns
-returns c = read-stopped _ _ _ (c .before .table-refusal .ensures) (c .if1 .taken)
+returns c = packed-laws .read-stopped _ _ _ (c .before .table-refusal .ensures) (c .if1 .taken)
 
 packed-length-requires : tie.Need-packed-length-requires
 packed-length-requires c κs = passes c .settings
 
 returns-2 : tie.Need-returns-2
-returns-2 c = let l = c .before in read-short _ _ _ (passes (l .before)) (omega (arith, l .packed-length .ensures, c .if2 .taken))
+returns-2 c = let l = c .before in packed-laws .read-short _ _ _ (passes (l .before)) (omega (arith, l .packed-length .ensures, c .if2 .taken))
 
 returns-3 : tie.Need-returns-3
-returns-3 c = let l = c .before .before in read-long _ _ _ (passes (l .before)) (omega (arith, l .packed-length .ensures, c .if3 .taken))
+returns-3 c = let l = c .before .before in packed-laws .read-long _ _ _ (passes (l .before)) (omega (arith, l .packed-length .ensures, c .if3 .taken))
 
 check-buckets-requires : tie.Need-check-buckets-requires
 check-buckets-requires c κs = (c .before .table .ensures, input (c .before .before))

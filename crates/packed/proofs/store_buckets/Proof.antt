@@ -5,7 +5,7 @@ use native.Mathlib.Nat.{le-refl}
 use native.Mathlib.Omega.{arith}
 use Rattle.index.proofs.Laws.{laws}
 use Rattle.lemmas.specs.Bytes.{numberFrom}
-use Rattle.packed_form.proofs.Refusals.{bucket-passed}
+use Rattle.packed_form.proofs.Laws.{packed-laws}
 use Rattle.packed.proofs.Bytes.{tail-room, width-of}
 use Rattle.packed.proofs.Reading.{CellsStored, bucket-inside, as-four, stored-none, stored-within, stored-passes, stored-room, stored-more, stored-all}
 use Rattle.packed.proofs.store_buckets.Statement.{statement}
@@ -36,7 +36,7 @@ bucket-from-requires c κs =
     let l = c .before in
     let s = l .before .before .before .before .before in
     let passes = stored-passes (s .pre .3) (l .before .loop .inv) (l .loop-test .taken) (c .code-at .ensures) in
-    (s .pre .0, width-of _ (s .pre .1 .settings), bucket-passed _ _ passes .0)
+    (s .pre .0, width-of _ (s .pre .1 .settings), packed-laws .bucket-passed _ _ passes .0)
 
 mul-at : tie.Need-mul-at Inv-loop μ-loop
 mul-at c = let l = c .before .before in omega (arith, few (l .before .before .before .before .before), l .loop-test .taken)

@@ -1,7 +1,7 @@
 use borrow.Author.Needs.{needs}
 use mathlib.Core.Path.{subst}
-use Rattle.commands.specs.Tags.{tagLength, Starts}
-use Rattle.commands.specs.declared.TagAnswer.{TagAnswer}
+use Rattle.typed_tags.specs.Tags.{tagLength, Starts}
+use Rattle.typed_tags.specs.declared.TagAnswer.{TagAnswer}
 use Rattle.gedrunelj.proofs.list.typed.Statement.{statement}
 use Rattle.gedrunelj.proofs.list.typed.Tie as tie
 

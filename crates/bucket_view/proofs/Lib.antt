@@ -1,0 +1,2 @@
+-- What a view shows, by the number of its check.
+pub mod Checked

@@ -1,0 +1,2 @@
+-- What a view is, by its values and its place.
+pub mod Views

@@ -1,0 +1,3 @@
+-- What the calls answer, and the contracts of the functions inside.
+pub mod Answers
+pub mod Internal

@@ -1,0 +1,63 @@
+-- Numbers stored one after the other: parts in a row, and what is left of a whole.
+-- Assumes nothing.
+use mathlib.Core.Path.{_≡_, refl, sym, ap, ap₂, _∙_}
+use mathlib.Core.List.{List, [], _∷_, _++_}
+use Prim.Native.Nat.{ℕ, suc, _+_, _≤_}
+use native.Mathlib.Omega.{arith}
+use lib.ListN.{length, set, length-append}
+use lib.Seq.{sets, length-sets}
+use Rattle.lemmas.specs.Stores.{Put}
+
+pub sets-append : (l : List ℕ) (i : ℕ) (a b : List ℕ) → sets l i (a ++ b) ≡ sets (sets l i a) (i + length a) b
+sets-append l i [] b =
+    let e : i + 0 ≡ i = omega arith in
+    rw e refl
+sets-append l i (x ∷ a) b =
+    let e : i + suc (length a) ≡ suc i + length a = omega arith in
+    rw e (sets-append (set l i x) (suc i) a b)
+
+pub put-nothing : (o : List ℕ) (at : ℕ) → Put o o at [] at
+put-nothing o at = record { output = refl; place = omega arith }
+
+pub put-then : {o e f : List ℕ} {at q r : ℕ} {a b : List ℕ} → Put o e at a q → Put e f q b r → Put o f at (a ++ b) r
+put-then {o} {e} {f} {at} {q} {r} {a} {b} k m = record {
+  output = m .output ∙ ap₂ (λ (l : List ℕ) (n : ℕ). sets l n b) (k .output) (k .place) ∙ sym (sets-append o at a b);
+  place = omega (arith, k .place, m .place, length-append a b);
+}
+
+pub put-length : {o e : List ℕ} {at q : ℕ} {a : List ℕ} → Put o e at a q → length e ≡ length o
+put-length {o} {e} {at} {q} {a} k = ap length (k .output) ∙ length-sets o at a
+
+-- what is left to store of a whole
+pub record Left (o e : List ℕ) (from at : ℕ) (all rest : List ℕ) : Type 0 where
+  pub output : sets e at rest ≡ sets o from all
+  pub place : at + length rest ≡ from + length all
+  pub long : length e ≡ length o
+
+pub left-all : (o : List ℕ) (from : ℕ) (all : List ℕ) → Left o o from from all all
+left-all o from all = record { output = refl; place = refl; long = refl }
+
+module _ {o e : List ℕ} {from at : ℕ} {all rest : List ℕ} (k : Left o e from at all rest) where
+  pub left-room : (a more : List ℕ) → rest ≡ a ++ more → from + length all ≤ length o → at + length a ≤ length e
+  left-room a more s h = omega (arith, k .place, k .long, ap length s, length-append a more)
+
+  -- a part more, and the rest from there
+  pub left-turn : {f a : List ℕ} {r : ℕ} (more : List ℕ) → Put e f at a r → rest ≡ a ++ more → Left o f from r all more
+  left-turn {f} {a} {r} more p s = record {
+    output = ap₂ (λ (l : List ℕ) (n : ℕ). sets l n more) (p .output) (p .place) ∙ sym (sets-append e at a more) ∙ ap (sets e at) (sym s) ∙ k .output;
+    place = omega (arith, p .place, k .place, ap length s, length-append a more);
+    long = put-length p ∙ k .long;
+  }
+
+  -- the last part
+  pub left-fits : from + length all ≤ length o → at + length rest ≤ length e
+  left-fits h = omega (arith, k .place, k .long)
+
+  pub left-last : {f : List ℕ} {r : ℕ} → Put e f at rest r → Put o f from all r
+  left-last p = record {
+    output = p .output ∙ k .output;
+    place = p .place ∙ k .place;
+  }
+
+  pub left-none : rest ≡ [] → Put o e from all at
+  left-none s = record { output = sym (ap (sets e at) s) ∙ k .output; place = omega (arith, k .place, ap length s) }

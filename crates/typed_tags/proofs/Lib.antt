@@ -1,0 +1,2 @@
+-- Digits, and what a tag is made of.
+pub mod Digits
