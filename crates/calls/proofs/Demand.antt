@@ -1,6 +1,6 @@
 -- Demand 3, from the index layer's laws.
 -- Assumes nothing.
-use mathlib.Core.Path.{_≡_, refl, ap, sym, _∙_}
+use mathlib.Core.Path.{_≡_, ap, sym, _∙_}
 use mathlib.Core.Logic.{_↔_}
 use mathlib.Core.Option.{none}
 use mathlib.Core.List.{List, [], _∷_, _++_}
@@ -21,7 +21,7 @@ use Rattle.index.specs.declared.Settings.{Settings}
 use Rattle.index.proofs.Laws.{laws}
 use Rattle.index.proofs.Checks.{check-laws}
 use Rattle.calls.specs.Cells.{cell}
-use Rattle.calls.specs.Calls.{Said, cleared, held, clear, released, absent, accepted, tableChecks, scratchChecks, fresh, clearTable}
+use Rattle.calls.specs.Calls.{Said, cleared, held, clear, released, absent, accepted, scratchChecks, fresh, clearTable}
 use Rattle.calls.specs.Multiset.{count}
 use Rattle.calls.specs.Assignment.{Assignable}
 use Rattle.calls.specs.AssignmentDecided.{decAssignable}

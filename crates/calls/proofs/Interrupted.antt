@@ -1,17 +1,16 @@
 -- No entry is missing while a hold moves entries.
 -- Assumes nothing.
 use mathlib.Core.Path.{_≡_, refl, sym, ap, _∙_, subst}
-use mathlib.Core.Logic.{inl, inr, _≢_}
+use mathlib.Core.Logic.{_≢_}
 use mathlib.Core.Option.{Option, none, some}
 use mathlib.Core.List.{List, [], _∷_}
 use Prim.Native.Nat.{ℕ, zero, suc, _+_, _*_, _/_, _≤_, _<_}
 use native.Mathlib.Omega.{arith}
 use native.Mathlib.Decide.{decLe}
 use lib.ListN.{length, set, take, length-set}
-use Rattle.lemmas.specs.Count.{_among_}
 use Rattle.lemmas.specs.Sums.{total}
 use Rattle.refusals.specs.Checks.{firstMet}
-use Rattle.refusals.specs.Outcomes.{Answer, refused, given, unless, Done, done, keeping}
+use Rattle.refusals.specs.Outcomes.{given, Done, done, keeping}
 use Rattle.index.specs.Settings.{settingsRefusal}
 use Rattle.index.specs.Hash.{fingerprint, home}
 use Rattle.index.specs.Candidates.{candidates, Class, classAt, classOf}
@@ -20,15 +19,15 @@ use Rattle.index.specs.declared.Settings.{Settings}
 use Rattle.index.proofs.Laws.{laws}
 use Rattle.calls.specs.Cells.{cell, lowestEmpty, inFirst}
 use Rattle.calls.specs.Search.{Ending, found, exhausted, searchFor, relocate}
-use Rattle.calls.specs.Calls.{Said, held, accepted, Sound, taggedChecks, lookup, lookupIn, placed, holdIn}
+use Rattle.calls.specs.Calls.{Said, held, accepted, taggedChecks, lookup, lookupIn, placed, holdIn}
 use Rattle.calls.specs.Multiset.{count}
-use Rattle.calls.specs.Model.{lookupOf, toLookup}
-use Rattle.calls.specs.Demand.{entries, forget, forgetMoves}
-use Rattle.calls.specs.Interrupted.{Write, write, afterWrites, moves, writesBy, holdWrites, Interrupted}
-use Rattle.calls.specs.Laws.{Finds, Agree, Step}
+use Rattle.calls.specs.Model.{toLookup}
+use Rattle.calls.specs.Demand.{entries}
+use Rattle.calls.specs.Interrupted.{Write, afterWrites, moves, writesBy, holdWrites, Interrupted}
+use Rattle.calls.specs.Laws.{Finds}
 use Rattle.calls.proofs.Cells.{empty-finds, first-finds}
 use Rattle.calls.proofs.Classes.{one-at, count-total}
-use Rattle.calls.proofs.Queue.{Chain, Ended, Ends, search-ends}
+use Rattle.calls.proofs.Queue.{Chain, Ends, search-ends}
 use Rattle.calls.proofs.Weights.{weightAt, weight-empty, weight-same, total-set}
 use Rattle.calls.proofs.Moves.{chain-set, moved-cell, placed-total, relocated-total}
 use Rattle.calls.proofs.Model.{step-lookup}

@@ -2,17 +2,13 @@
 -- Assumes nothing.
 use mathlib.Core.Path.{_≡_, subst}
 use mathlib.Core.Option.{none}
-use Prim.Native.Nat.{ℕ, _*_, _<_}
-use mathlib.Core.List.{List}
-use Rattle.lemmas.specs.Sums.{total, sumTo}
+use Prim.Native.Nat.{ℕ}
 use Rattle.index.specs.Settings.{settingsRefusal}
-use Rattle.index.specs.Candidates.{candidates, Class}
-use Rattle.index.specs.Laws.{Laws}
+use Rattle.index.specs.Candidates.{candidates}
 use Rattle.index.specs.declared.Settings.{Settings}
 use Rattle.index.proofs.Laws.{laws}
 use Rattle.calls.specs.Cells.{scan, lowestEmpty}
-use Rattle.calls.specs.Search.{Node, found, searchFor}
-use Rattle.calls.specs.Laws.{ScanLaws, FilledLaws, QueueLaws, TableCheckLaws, MultisetLaws, CallLaws}
+use Rattle.calls.specs.Laws.{ScanLaws, FilledLaws, QueueLaws, MultisetLaws, CallLaws}
 use Rattle.calls.proofs.Cells.{scan-finds, empty-finds, first-finds, filled-most, filled-append}
 use Rattle.calls.proofs.Classes.{same-perm}
 use Rattle.calls.proofs.Nodes.{distinct-none, distinct-more, distinct-room}

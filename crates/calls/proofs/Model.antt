@@ -13,14 +13,14 @@ use Rattle.lemmas.specs.Sums.{total}
 use Rattle.lemmas.proofs.Count.{zero-cases}
 use Rattle.lemmas.proofs.Sums.{sum-zero}
 use Rattle.refusals.specs.Checks.{firstMet}
-use Rattle.refusals.specs.Outcomes.{Answer, refused, given, unless, done, outcome, keeping}
+use Rattle.refusals.specs.Outcomes.{Answer, refused, given, unless, outcome, keeping}
 use Rattle.index.specs.Hash.{fingerprint, home}
 use Rattle.index.specs.Candidates.{candidates, Class, classAt}
 use Rattle.index.specs.Laws.{Laws}
 use Rattle.index.specs.declared.Settings.{Settings}
 use Rattle.calls.specs.Cells.{cell, scan, lowestEmpty, inFirst}
 use Rattle.calls.specs.Search.{Ending, found, exhausted, searchFor, relocate}
-use Rattle.calls.specs.Calls.{Said, held, clear, absent, accepted, Act, Result, toldHeld, foundIn, lookupIn, lookup, emptied, releaseIn, release, placed, holdIn, hold}
+use Rattle.calls.specs.Calls.{Said, held, clear, absent, accepted, Act, toldHeld, foundIn, lookupIn, lookup, emptied, releaseIn, release, placed, holdIn, hold}
 use Rattle.calls.specs.Multiset.{count, Same}
 use Rattle.calls.specs.Assignment.{Assignable}
 use Rattle.calls.specs.AssignmentDecided.{decAssignable}

@@ -3,20 +3,19 @@
 use mathlib.Core.Path.{_≡_, refl, sym, _∙_}
 use mathlib.Core.Option.{Option, none, some}
 use mathlib.Core.List.{List, [], _∷_, _++_}
-use Prim.Native.Nat.{ℕ, _*_, _≤_, _<_}
+use Prim.Native.Nat.{ℕ, _*_}
 use native.Mathlib.Omega.{arith}
 use borrow.Author.Tests.{eqb-true, not-false, lt-ltb, le-ltb}
 use lib.Dec.{eqb}
 use lib.ListN.{length}
-use Rattle.refusals.specs.Checks.{Check, firstMet, Numbered}
-use Rattle.refusals.specs.Laws.{Reached}
+use Rattle.refusals.specs.Checks.{Check, firstMet}
 use Rattle.refusals.proofs.Cursor.{start, met, passed, none-left, all-met, all-passed, parts-passed, not-met, numbered-both}
-use Rattle.index.specs.Settings.{settingsChecks, settingsRefusal}
+use Rattle.index.specs.Settings.{settingsChecks}
 use Rattle.index.specs.Hash.{tagChecks}
 use Rattle.index.specs.declared.Settings.{Settings}
 use Rattle.index.proofs.Checks.{check-laws}
-use Rattle.calls.specs.Calls.{tableChecks, scratchChecks, Sound, taggedChecks, holdChecks}
-use Rattle.calls.specs.Model.{holdOf, releaseOf, lookupOf, modelChecks}
+use Rattle.calls.specs.Calls.{tableChecks, scratchChecks, taggedChecks, holdChecks}
+use Rattle.calls.specs.Model.{holdOf, modelChecks}
 use Rattle.calls.specs.Laws.{TableCheckLaws}
 use Rattle.calls.proofs.CheckOrder.{by-settings, by-size, table-passes}
 

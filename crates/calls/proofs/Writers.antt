@@ -13,7 +13,7 @@ use lib.Dec.{ltb}
 use lib.ListN.{length, take, drop}
 use lib.Seq.{take-at}
 use Rattle.refusals.specs.Checks.{check, firstMet, numberOf}
-use Rattle.refusals.specs.Outcomes.{Answer, refused, given, unless, Done, done, Outcome, outcome, keeping}
+use Rattle.refusals.specs.Outcomes.{Answer, refused, given, unless, Done, done, outcome, keeping}
 use Rattle.refusals.specs.Laws.{Reached}
 use Rattle.refusals.proofs.Cursor.{start, met, passed, none-left, all-passed, parts-passed, not-met, number-passed, call-refused, call-goes-on, number-refuses}
 use Rattle.index.specs.declared.Settings.{Settings}

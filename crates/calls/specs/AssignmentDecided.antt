@@ -1,10 +1,10 @@
 -- Whether entries can be assigned, decided: each candidate of each entry is tried. The type of `decAssignable` says that it decides the
 -- plain meaning, so that nothing here has to be believed.
 -- Assumes nothing.
-use mathlib.Core.Path.{_≡_, subst}
+use mathlib.Core.Path.{subst}
 use mathlib.Core.Logic.{inl, inr}
 use mathlib.Core.List.{List, [], _∷_}
-use Prim.Native.Nat.{ℕ, _+_, _≤_, _<_}
+use Prim.Native.Nat.{ℕ, _+_, _≤_}
 use native.Mathlib.Decide.{decLt, map-dec}
 use native.Mathlib.Omega.{arith}
 use Rattle.lemmas.specs.Count.{occ, _among_}

@@ -1,6 +1,6 @@
 -- The table's calls, as functions of settings, cells, tag and the length of scratch.
 -- Assumes nothing.
-use mathlib.Core.Bool.{Bool, true, false, cond, not}
+use mathlib.Core.Bool.{not}
 use mathlib.Core.Path.{_≡_}
 use mathlib.Core.Option.{Option, none, some}
 use mathlib.Core.List.{List, [], _∷_, _++_}
@@ -14,7 +14,7 @@ use Rattle.index.specs.Hash.{fingerprint, home, tagChecks}
 use Rattle.index.specs.Candidates.{candidates, bucketChecks}
 use Rattle.index.specs.declared.Settings.{Settings}
 use Rattle.calls.specs.Cells.{bucketOf, scan, lowestEmpty, inFirst}
-use Rattle.calls.specs.Search.{Node, Ending, found, exhausted, searchFor, relocate}
+use Rattle.calls.specs.Search.{Ending, found, exhausted, searchFor, relocate}
 
 -- what a call says
 pub data Said : Type 0 where

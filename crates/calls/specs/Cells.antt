@@ -1,6 +1,6 @@
 -- The table's cells: a list of 4 × M numbers. 0 is an empty cell, any other value a fingerprint.
 -- Assumes nothing.
-use mathlib.Core.Bool.{Bool, true, false, cond}
+use mathlib.Core.Bool.{cond}
 use mathlib.Core.Option.{Option, none, some}
 use mathlib.Core.List.{List, [], _∷_}
 use Prim.Native.Nat.{ℕ, _+_, _*_}

@@ -4,16 +4,15 @@
 use mathlib.Core.Path.{_≡_}
 use mathlib.Core.Option.{Option, none, some}
 use mathlib.Core.List.{List, [], _∷_}
-use Prim.Native.Nat.{ℕ, _+_, _*_, _≤_, _<_}
-use mathlib.Core.Logic.{_≢_}
+use Prim.Native.Nat.{ℕ, _+_, _≤_}
 use lib.ListN.{length, set, take}
 use Rattle.refusals.specs.Checks.{firstMet}
-use Rattle.refusals.specs.Outcomes.{given, done}
+use Rattle.refusals.specs.Outcomes.{given}
 use Rattle.index.specs.Candidates.{candidates, Class, classAt, classOf}
 use Rattle.index.specs.declared.Settings.{Settings}
 use Rattle.calls.specs.Cells.{cell, lowestEmpty, inFirst}
 use Rattle.calls.specs.Search.{Ending, found, exhausted, searchFor}
-use Rattle.calls.specs.Calls.{held, accepted, taggedChecks, lookup, holdIn}
+use Rattle.calls.specs.Calls.{held, accepted, taggedChecks, lookup}
 use Rattle.calls.specs.Multiset.{count}
 use Rattle.calls.specs.Demand.{entries}
 

@@ -12,8 +12,8 @@ use lib.Dec.{eqb}
 use lib.ListN.{length}
 use Rattle.lemmas.specs.Count.{occ, _among_}
 use Rattle.lemmas.specs.Sums.{sumTo, total}
-use Rattle.refusals.specs.Checks.{Check, firstMet, Numbered}
-use Rattle.refusals.specs.Outcomes.{Answer, Outcome, keeping}
+use Rattle.refusals.specs.Checks.{firstMet, Numbered}
+use Rattle.refusals.specs.Outcomes.{Outcome, keeping}
 use Rattle.index.specs.Settings.{settingsRefusal}
 use Rattle.index.specs.Candidates.{Class, classAt}
 use Rattle.index.specs.declared.Settings.{Settings}

@@ -1,7 +1,6 @@
 -- The reference model (document 01: the hold book): a list of classes, of which only the multiset counts. It is fed the kind of call,
 -- the settings, the tag and the length of scratch, and nothing of the table.
 -- Assumes nothing.
-use mathlib.Core.Path.{_≡_}
 use mathlib.Core.List.{List, [], _∷_, _++_}
 use Prim.Native.Nat.{ℕ, _≤_}
 use native.Mathlib.Decide.{decLe}

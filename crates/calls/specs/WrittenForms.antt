@@ -1,7 +1,7 @@
 -- What the two written forms of a table share, the hold file and the packed form: their writers' checks, 17 before 16, and what a writer
 -- leaves.
 -- Assumes nothing.
-use mathlib.Core.Bool.{Bool, true, false, _||_}
+use mathlib.Core.Bool.{Bool, false, _||_}
 use mathlib.Core.List.{List, [], _∷_, _++_}
 use Prim.Native.Nat.{ℕ, _^_}
 use lib.Dec.{leb, ltb}

@@ -1,7 +1,7 @@
 // A line's words, and the command that they make.
 ghost use mathlib.Core.Path.{_≡_};
 ghost use Prim.Native.Nat.{_≤_};
-ghost use lib.ListN.{length, take, drop};
+ghost use lib.ListN.{length, take};
 ghost use Rattle.commands.specs.Words.{blank as blankOf, front as frontOf, skipBlanks, trimEnd, trim, word as wordOf, afterWord, same as sameOf};
 ghost use Rattle.commands.specs.Numbers.{valueOf};
 ghost use Rattle.commands.specs.Internal.{numberIs};

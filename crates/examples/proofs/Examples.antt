@@ -6,14 +6,12 @@ use mathlib.Core.Option.{none}
 use mathlib.Core.List.{List}
 use Prim.Native.Nat.{ℕ, _*_, _^_}
 use lib.ListN.{length}
-use Rattle.lemmas.specs.Count.{hit}
-use Rattle.lemmas.specs.Members.{membersBelow}
 use Rattle.refusals.specs.Outcomes.{given, outcome}
 use Rattle.index.specs.declared.Settings.{Settings}
 use Rattle.index.specs.Settings.{powerOfTwo, settingsChecks, settingsRefusal, half, modulus}
 use Rattle.index.specs.Hash.{fnvStep, fnvFrom, fnv1a, fingerprintOf, homeOf, fingerprint, home, tagChecks}
 use Rattle.index.specs.Candidates.{offset, across, coMask, xorSteps, othersBy, others, candidates}
-use Rattle.calls.specs.Cells.{scan, lowestEmpty}
+use Rattle.calls.specs.Cells.{lowestEmpty}
 use Rattle.calls.specs.Search.{leadsTo, searchFrom, searchFor}
 use Rattle.calls.specs.Calls.{tableChecks, scratchChecks, fresh, holdChecks, holdIn, hold}
 use Rattle.calls.specs.WrittenForms.{anyFrom}

@@ -1,7 +1,6 @@
 -- Which number a file is answered with where several things are wrong.
 -- Assumes nothing.
 use mathlib.Core.Path.{_≡_, refl, ap, _∙_}
-use mathlib.Core.Logic.{_≢_}
 use mathlib.Core.Bool.{Bool, true, false, cond, _||_}
 use mathlib.Core.Option.{Option, none, some}
 use mathlib.Core.List.{List, [], _∷_, _++_}
@@ -13,14 +12,13 @@ use lib.Dec.{eqb, leb}
 use lib.ListN.{length, take, drop, length-drop}
 use Rattle.lemmas.specs.Bytes.{numberFrom}
 use Rattle.refusals.specs.Checks.{firstMet}
-use Rattle.refusals.specs.Outcomes.{refused, Done, keeping}
+use Rattle.refusals.specs.Outcomes.{refused, Done}
 use Rattle.refusals.proofs.Cursor.{start, met, passed, none-left}
-use Rattle.index.specs.Settings.{settingsRefusal}
 use Rattle.index.specs.declared.Settings.{Settings}
 use Rattle.calls.specs.Calls.{tableChecks, Sound}
 use Rattle.calls.proofs.Laws.{table-check-laws}
 use Rattle.file_form.specs.Bytes.{bit0, bit1, bit2, bit3}
-use Rattle.file_form.specs.Parsed.{Parsed, stop, next, andThen, refuseIf, checked, answerOf}
+use Rattle.file_form.specs.Parsed.{Parsed, stop, next, andThen, refuseIf, checked}
 use Rattle.file_form.specs.Fields.{bit, anyOf, takeNumber, field, takeFields}
 use Rattle.file_form.specs.Header.{sizes, settingsFrom, defaults, mapChecks, misfits, misfit}
 use Rattle.file_form.specs.Reader.{fitting, readFields, afterMap, readHeader, readCell, readCells, readBucket, readBuckets, afterBuckets, afterHeader, readAll, readFile}

@@ -22,7 +22,6 @@ use table::HoldAnswer;
 use table::LookupAnswer;
 use table::ReleaseAnswer;
 use typed_tags::TagAnswer;
-ghost use mathlib.Core.Path.{_≡_};
 ghost use Rattle.io.specs.Counts.{Counts};
 
 // ── what is kept ──

@@ -1,13 +1,13 @@
 -- What the public calls answer: for each case of an answer's type the number or the values that document 01 gives it, and for each
 -- call the answer that it has to give.
 -- Assumes nothing.
-use mathlib.Core.Bool.{Bool, true, false, cond}
-use mathlib.Core.List.{List, [], _∷_, _++_}
+use mathlib.Core.Bool.{cond}
+use mathlib.Core.List.{List, _++_}
 use mathlib.Core.Path.{_≡_}
 use Prim.Native.Nat.{ℕ}
 use lib.Dec.{eqb}
 use lib.ListN.{length, take, replicate}
-use Rattle.refusals.specs.Checks.{Check, firstMet}
+use Rattle.refusals.specs.Checks.{firstMet}
 use Rattle.refusals.specs.Outcomes.{Answer, refused, given, unless}
 use Rattle.index.specs.Settings.{settingsChecks, settingsRefusal}
 use Rattle.index.specs.Hash.{fingerprint, home, tagChecks}

@@ -16,7 +16,7 @@ use Rattle.refusals.specs.Checks.{firstMet, Numbered}
 use Rattle.refusals.specs.Outcomes.{refused, given}
 use Rattle.index.specs.Settings.{settingsChecks, settingsRefusal}
 use Rattle.index.specs.Hash.{fingerprint, home, tagChecks}
-use Rattle.index.specs.Candidates.{others, candidates, candidateSet, Class, classAt, classOf, bucketChecks}
+use Rattle.index.specs.Candidates.{others, candidates, candidateSet, classAt, classOf, bucketChecks}
 use Rattle.index.specs.Answers.{entryOf, candidatesAnswer}
 use Rattle.index.specs.declared.Settings.{Settings}
 

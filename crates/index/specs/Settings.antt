@@ -1,9 +1,9 @@
 -- The settings: rule, width w, bucket count M, mask m. Their checks are 1 to 4.
 -- Assumes nothing.
-use mathlib.Core.Bool.{Bool, true, false, cond, not, _||_}
+use mathlib.Core.Bool.{Bool, false, not, _||_}
 use mathlib.Core.Option.{Option}
 use mathlib.Core.List.{List, [], _∷_}
-use Prim.Native.Nat.{ℕ, zero, suc, _+_, _*_, _/_, _%_, _^_}
+use Prim.Native.Nat.{ℕ, zero, suc, _/_, _%_, _^_}
 use lib.Dec.{eqb, leb, ltb}
 use Rattle.refusals.specs.Checks.{Check, check, firstMet}
 use Rattle.index.specs.declared.Settings.{Settings}

@@ -1,12 +1,10 @@
 -- Exclusive or as a group, and what a mask and its complement take of a number.
 -- Assumes nothing.
-use mathlib.Core.Path.{_≡_, refl, sym, ap, ap₂, _∙_, subst}
-use mathlib.Core.Logic.{_⊎_, inl, inr}
-use Prim.Native.Nat.{ℕ, zero, suc, _+_, _*_, _-_, _/_, _%_, _^_, _≤_, _<_, min}
-use native.Mathlib.Nat.{mod-lt, zero-lt-suc}
+use mathlib.Core.Path.{_≡_, refl, sym, ap, ap₂, _∙_}
+use Prim.Native.Nat.{ℕ, zero, suc, _+_, _*_, _-_, _/_, _%_, _^_, _<_, min}
 use native.Mathlib.Omega.{arith}
 use lib.Arith.{bin-ind, digits-div, digits-mod}
-use lib.Bits.{bitAnd, bitXor, differ, and-step, xor-step, xor-zero-l, xor-zero-r, xor-comm, xor-self, and-self, and-zero-l}
+use lib.Bits.{bitAnd, bitXor, differ, and-step, xor-step, xor-zero-l, xor-self}
 
 -- ── associativity ──
 differ-bit : (x y : ℕ) → x < 2 → y < 2 → differ x y < 2

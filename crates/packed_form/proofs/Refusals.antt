@@ -5,20 +5,19 @@ use mathlib.Core.Logic.{_≢_}
 use mathlib.Core.Bool.{true, false}
 use mathlib.Core.Option.{Option, none, some}
 use mathlib.Core.List.{List, [], _∷_, _++_}
-use Prim.Native.Nat.{ℕ, _%_, _^_, _≤_, _<_}
+use Prim.Native.Nat.{ℕ, _%_, _≤_, _<_}
 use native.Mathlib.Omega.{arith}
 use borrow.Author.Tests.{lt-ltb, le-ltb, ltb-false, le-leb, lt-leb, leb-false}
 use lib.Dec.{leb, ltb}
-use lib.ListN.{length, drop}
+use lib.ListN.{length}
 use Rattle.lemmas.specs.Bytes.{numberFrom}
 use Rattle.refusals.specs.Checks.{check, firstMet, numberOf}
-use Rattle.refusals.specs.Outcomes.{Answer, refused, given, unless, Done, done, Outcome, outcome, keeping}
+use Rattle.refusals.specs.Outcomes.{Answer, refused, given, unless, Outcome, outcome, keeping}
 use Rattle.refusals.specs.Laws.{Reached}
-use Rattle.refusals.proofs.Cursor.{start, met, passed, none-left, all-passed, parts-passed, not-met, number-passed, call-refused, call-goes-on, number-refuses}
+use Rattle.refusals.proofs.Cursor.{start, met, passed, none-left, all-passed, parts-passed, not-met, call-refused, call-goes-on, number-refuses}
 use Rattle.index.specs.declared.Settings.{Settings}
 use Rattle.calls.specs.Cells.{filledCount}
 use Rattle.calls.specs.Calls.{tableChecks, Sound}
-use Rattle.calls.specs.WrittenForms.{anyFrom, writeChecks, written}
 use Rattle.calls.proofs.Laws.{table-check-laws}
 use Rattle.packed_form.specs.Writer.{packedLength}
 use Rattle.packed_form.specs.Reader.{bucketFrom, descends, codeChecks, unpack, lengthChecks, withCount, readPacked}

@@ -5,10 +5,10 @@ use mathlib.Core.Logic.{_≢_}
 use mathlib.Core.Bool.{Bool, true, false, cond}
 use mathlib.Core.Option.{Option, none, some}
 use mathlib.Core.List.{List, [], _∷_, _++_}
-use Prim.Native.Nat.{ℕ, zero, suc, _<_}
+use Prim.Native.Nat.{ℕ}
 use native.Mathlib.Omega.{arith}
 use Rattle.refusals.specs.Checks.{Check, firstMet, numberOf, Numbered}
-use Rattle.refusals.specs.Outcomes.{Answer, refused, given, unless, Done, Outcome, outcome, keeping}
+use Rattle.refusals.specs.Outcomes.{Answer, refused, given, unless, Done, outcome, keeping}
 use Rattle.refusals.specs.Laws.{Reached}
 
 -- ── one check ──

@@ -1,12 +1,11 @@
 -- The laws of refusals.
 -- Assumes nothing.
-use mathlib.Core.Path.{_≡_, refl, sym, ap}
-use mathlib.Core.Option.{Option, some}
-use mathlib.Core.List.{List, _∷_}
+use mathlib.Core.Path.{_≡_, refl, ap}
+use mathlib.Core.Option.{Option}
+use mathlib.Core.List.{_∷_}
 use Prim.Native.Nat.{ℕ}
 use native.Mathlib.Omega.{arith}
-use Rattle.refusals.specs.Checks.{Check, firstMet}
-use Rattle.refusals.specs.Outcomes.{Answer, refused, given, unless, Done, Outcome, keeping}
+use Rattle.refusals.specs.Outcomes.{Answer, refused, given, unless, Done, keeping}
 use Rattle.refusals.specs.Laws.{RefusalLaws}
 use Rattle.refusals.proofs.Cursor.{start, met, all-passed}
 

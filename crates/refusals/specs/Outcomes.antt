@@ -2,7 +2,6 @@
 -- what was lent is as it was.
 -- Assumes nothing.
 use mathlib.Core.Option.{Option, none, some}
-use mathlib.Core.List.{List}
 use Prim.Native.Nat.{ℕ}
 
 -- what a call answers: the number of its refusal, or its values

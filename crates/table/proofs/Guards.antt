@@ -1,33 +1,31 @@
 -- What a call knows once its checks are passed, and what it says where one is met.
 -- Assumes nothing.
-use mathlib.Core.Path.{_≡_, refl, sym, ap, ap₂, subst, _∙_}
+use mathlib.Core.Path.{_≡_, sym, ap, ap₂, subst, _∙_}
 use mathlib.Core.Logic.{_≢_, inl, inr}
 use mathlib.Core.Bool.{Bool, true, false, cond}
 use mathlib.Core.Option.{Option, none, some}
-use mathlib.Core.List.{List, [], _++_, append-nil}
-use Prim.Native.Nat.{ℕ, zero, suc, _+_, _*_, _-_, _/_, _≤_, _<_}
-use native.Mathlib.Decide.{decLt}
+use mathlib.Core.List.{List, _++_, append-nil}
+use Prim.Native.Nat.{ℕ, _+_, _*_, _-_, _/_, _≤_, _<_}
 use native.Mathlib.Omega.{arith}
 use lib.Dec.{eqb}
 use lib.ListN.{length, take, drop, set, replicate, length-replicate, drop-of-length-le}
 use Rattle.lemmas.specs.Count.{_among_}
 use Rattle.refusals.specs.Checks.{firstMet, numberOf}
 use Rattle.refusals.specs.Outcomes.{refused, given, unless, done, outcome, keeping}
-use Rattle.refusals.proofs.Cursor.{start, all-met, all-passed, number-some, number-met, number-passed, call-refused, call-goes-on, number-refuses}
+use Rattle.refusals.proofs.Cursor.{start, all-passed, number-met, number-passed, call-refused, call-goes-on, number-refuses}
 use Rattle.index.specs.Settings.{settingsChecks, settingsRefusal}
 use Rattle.index.specs.Hash.{fingerprint, home, tagChecks}
-use Rattle.index.specs.Candidates.{candidates, bucketChecks}
+use Rattle.index.specs.Candidates.{candidates}
 use Rattle.index.specs.Answers.{entryOf, listed, candidatesAnswer, Lists}
 use Rattle.index.specs.declared.Settings.{Settings}
 use Rattle.index.specs.declared.CandidateList.{CandidateList}
 use Rattle.index.proofs.Laws.{laws}
 use Rattle.index.proofs.Checks.{check-laws}
-use Rattle.calls.specs.Cells.{bucketOf, scan, inFirst}
-use Rattle.calls.specs.Calls.{Act, cleared, tableChecks, Sound, fresh, clearTable, viewChecks, viewed, viewNumber, partOf}
+use Rattle.calls.specs.Cells.{scan, inFirst}
+use Rattle.calls.specs.Calls.{Act, cleared, tableChecks, Sound, fresh, clearTable}
 use Rattle.calls.specs.Calls.{taggedChecks, foundIn, toldHeld, lookup, released, emptied, release, lookupIn, releaseIn}
 use Rattle.calls.specs.Laws.{Finds}
 use Rattle.calls.proofs.Laws.{scan-laws, table-check-laws}
-use Rattle.calls.proofs.Writers.{table-passed}
 
 -- ── the check of settings and table ──
 module _ (s : Settings) (c : List ℕ) (n : ℕ) (e : n ≡ numberOf (settingsRefusal s)) where

@@ -1,7 +1,6 @@
 use Prim.Native.Nat.{ℕ, _+_, _*_, _-_, _≤_}
 use mathlib.Core.List.{List}
 use borrow.Rule.Slice.PartMut.{midOf, mid-len, same-len-mid}
-use borrow.Author.Needs.{needs}
 use lib.ListN.{length, take, drop}
 use mathlib.Core.Path.{_≡_, refl, sym, _∙_, subst}
 use native.Mathlib.Omega.{arith}

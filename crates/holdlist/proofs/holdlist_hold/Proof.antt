@@ -1,5 +1,5 @@
 use borrow.Author.Needs.{needs}
-use mathlib.Core.Path.{_≡_, _∙_, ap, sym}
+use mathlib.Core.Path.{_≡_, _∙_, ap}
 use Rattle.index.specs.declared.Settings.{Settings}
 use Prim.Native.Nat.{ℕ}
 use mathlib.Core.Option.{some}

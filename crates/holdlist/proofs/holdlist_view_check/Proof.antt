@@ -1,5 +1,5 @@
 use borrow.Author.Needs.{needs}
-use mathlib.Core.Path.{_∙_, ap}
+use mathlib.Core.Path.{_∙_}
 use Rattle.holdlist.proofs.Crossing.{crosses, view-crosses}
 use Rattle.holdlist.proofs.holdlist_view_check.Statement.{statement}
 use Rattle.holdlist.proofs.holdlist_view_check.Tie as tie
