@@ -3,7 +3,7 @@
 use mathlib.Core.Path.{_≡_}
 use mathlib.Core.Bool.{cond}
 use mathlib.Core.List.{List}
-use Prim.Native.Nat.{ℕ}
+use Prim.Native.Nat.{ℕ, _≤_}
 use lib.Dec.{leb}
 use lib.ListN.{length, drop}
 use lib.Seq.{sets}
@@ -22,6 +22,15 @@ readIs (ReadAnswer.Refused n) = refused n
 abbrev pub headerIs : List ℕ → HeaderRead → Parsed Settings
 headerIs l (HeaderRead.Fields s at) = next s (drop at l)
 headerIs l (HeaderRead.Refused n) = stop n
+
+-- what is read of a header, and a place that lies in the bytes: so there is one such place
+abbrev pub PlaceIn : List ℕ → HeaderRead → Type 0
+PlaceIn l (HeaderRead.Fields s at) = at ≤ length l
+PlaceIn l (HeaderRead.Refused n) = Unit {0}
+
+pub record HeaderTaken (l : List ℕ) (r : HeaderRead) (whole : Parsed Settings) : Type 0 where
+  pub is : headerIs l r ≡ whole
+  pub inside : PlaceIn l r
 
 -- the header at the start of an output that has room for it, and its size; an output without room is as it was
 pub record HeaderPut (s : Settings) (before after : List ℕ) (size : ℕ) : Type 0 where

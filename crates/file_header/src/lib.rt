@@ -15,8 +15,8 @@ ghost use Rattle.file_form.specs.Fields.{spelled, Fit, takeNumber, field};
 ghost use Rattle.file_form.specs.Header.{sizes, valuesOf, settingsFrom, mapOf, mapChecks};
 ghost use Rattle.file_form.specs.Writer.{header};
 ghost use Rattle.file_form.specs.Reader.{readFields, readHeader, headerAnswer};
-ghost use Rattle.file_header.specs.Answers.{readIs, headerIs, HeaderPut};
-ghost use Rattle.file_header.specs.Internal.{numberIs};
+ghost use Rattle.file_header.specs.Answers.{readIs, HeaderTaken, HeaderPut};
+ghost use Rattle.file_header.specs.Internal.{NumberTaken};
 use index::Settings;
 
 // The file's settings, or the number of the refusal.
@@ -192,7 +192,7 @@ fn bytes_left(len: usize, at: usize) -> usize
 // A number of n bytes, the highest taken first.
 fn number_at(bytes: &[u8], at: usize, n: usize) -> Number
     requires { ⌜ n ≤ 8 ⌝ }
-    ensures { λ r. ⌜ numberIs (now (bytes .entry)) r ≡ takeNumber n (drop at (now (bytes .entry))) ⌝ }
+    ensures { λ r. ⌜ NumberTaken (now (bytes .entry)) at r (takeNumber n (drop at (now (bytes .entry)))) ⌝ }
 {
     if bytes_left(bytes.len(), at) < n {
         return Number::Short;
@@ -210,7 +210,7 @@ fn number_at(bytes: &[u8], at: usize, n: usize) -> Number
 // A field where its bit stands, else its default, which takes no bytes.
 fn field_at(bytes: &[u8], at: usize, stands: bool, n: usize, default: u64) -> Number
     requires { ⌜ n ≤ 8 ⌝ }
-    ensures { λ r. ⌜ numberIs (now (bytes .entry)) r ≡ field stands default (takeNumber n) (drop at (now (bytes .entry))) ⌝ }
+    ensures { λ r. ⌜ NumberTaken (now (bytes .entry)) at r (field stands default (takeNumber n) (drop at (now (bytes .entry)))) ⌝ }
 {
     if stands {
         return number_at(bytes, at, n);
@@ -227,8 +227,8 @@ fn widen(x: u8) -> u64
 // The settings of the fields. The map has to be the one that the writer makes of them: a field that is there though it has its
 // default, and a mask's bit that does not fit the rule, make another.
 fn fields_at(bytes: &[u8], from: usize, map: u64) -> HeaderRead
-    requires { ⌜ firstMet (mapChecks map) ≡ none ⌝ }
-    ensures { λ r. ⌜ headerIs (now (bytes .entry)) r ≡ readFields map (drop from (now (bytes .entry))) ⌝ }
+    requires { ⌜ (firstMet (mapChecks map) ≡ none) × (from ≤ length (now bytes)) ⌝ }
+    ensures { λ r. ⌜ HeaderTaken (now (bytes .entry)) r (readFields map (drop from (now (bytes .entry)))) ⌝ }
 {
     let sizes = field_sizes();
     let mut values = values_of(Settings::defaults());
@@ -253,7 +253,7 @@ fn fields_at(bytes: &[u8], from: usize, map: u64) -> HeaderRead
 
 // The settings that the header names, which are not checked, and the place after it.
 pub fn header_at(bytes: &[u8]) -> HeaderRead
-    ensures { λ r. ⌜ headerIs (now (bytes .entry)) r ≡ readHeader (now (bytes .entry)) ⌝ }
+    ensures { λ r. ⌜ HeaderTaken (now (bytes .entry)) r (readHeader (now (bytes .entry))) ⌝ }
 {
     let Number::Value(map, at) = number_at(bytes, 0, 1) else {
         return HeaderRead::Refused(11);

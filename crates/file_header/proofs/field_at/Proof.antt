@@ -8,10 +8,15 @@ use Rattle.file_header.proofs.field_at.Statement.{statement}
 use Rattle.file_header.proofs.field_at.Tie as tie
 
 returns : tie.Need-returns
-returns c = let a = c .before .before .before .args in c .number-at .ensures ∙ sym (field-stands (a .stands) (a .default) (takeNumber (a .n)) (drop (a .at) (a .bytes .now)) (c .before .if1 .taken))
+returns c =
+    let a = c .before .before .before .args in
+    let k = c .number-at .ensures in
+    record { is = k .is ∙ sym (field-stands (a .stands) (a .default) (takeNumber (a .n)) (drop (a .at) (a .bytes .now)) (c .before .if1 .taken)); inside = k .inside }
 
 returns-2 : tie.Need-returns-2
-returns-2 c = let a = c .before .before .args in sym (field-absent (a .stands) (a .default) (takeNumber (a .n)) (drop (a .at) (a .bytes .now)) (c .if1 .left))
+returns-2 c =
+    let a = c .before .before .args in
+    record { is = sym (field-absent (a .stands) (a .default) (takeNumber (a .n)) (drop (a .at) (a .bytes .now)) (c .if1 .left)); inside = λ h. h }
 
 pub field-at-spec : {M : Type 1} → statement M
 field-at-spec = tie.close (tie.spec (λ c κs. search needs) returns returns-2)

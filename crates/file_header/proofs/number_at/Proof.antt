@@ -33,7 +33,7 @@ low c =
 returns : tie.Need-returns Inv-loop μ-loop
 returns c =
     let a = c .before .before .before .args in
-    sym (number-short (a .bytes .now) (a .at) (a .n) (subst (λ (k : ℕ). k < a .n) (c .before .bytes-left .ensures) (c .if1 .taken)))
+    record { is = sym (number-short (a .bytes .now) (a .at) (a .n) (subst (λ (k : ℕ). k < a .n) (c .before .bytes-left .ensures) (c .if1 .taken))); inside = λ h. tt }
 
 add-end : tie.Need-add-end Inv-loop μ-loop
 add-end c = omega (arith, c .before .bytes-left .ensures, c .if1 .left)
@@ -71,8 +71,12 @@ returns-2 c =
     let a = c .before .before .before .before .before .args in
     let here : l .i ≡ a .at = omega arith in
     let all : a .at + a .n - a .at ≡ a .n = omega arith in
-    ap (λ (x : ℕ). next x (drop (a .at + a .n) (a .bytes .now))) (l .inv .2 ∙ rw (here, all) refl)
-    ∙ sym (number-taken (a .bytes .now) (a .at) (a .n) (inside (c .before .before)))
+    record {
+      is =
+          ap (λ (x : ℕ). next x (drop (a .at + a .n) (a .bytes .now))) (l .inv .2 ∙ rw (here, all) refl)
+          ∙ sym (number-taken (a .bytes .now) (a .at) (a .n) (inside (c .before .before)));
+      inside = λ h. omega (arith, inside (c .before .before), h);
+    }
 
 pub number-at-spec : {M : Type 1} → statement M
 number-at-spec =

@@ -11,7 +11,7 @@ returns : tie.Need-returns
 returns c =
     let a = c .before .before .before .before .before .before .args in
     let n = c .before .n .given in
-    file-read (a .bytes .now) (a .table .now) (stop (n .0 .0)) (ap (headerIs (a .bytes .now)) (sym (n .1)) ∙ c .before .before .before .header-at .ensures) refl
+    file-read (a .bytes .now) (a .table .now) (stop (n .0 .0)) (ap (headerIs (a .bytes .now)) (sym (n .1)) ∙ c .before .before .before .header-at .ensures .is) refl
 
 returns-2 : tie.Need-returns-2
 returns-2 c =
@@ -19,7 +19,7 @@ returns-2 c =
     let h = k .before .before in
     let a = h .before .before .before .args in
     let s = k .s .given in
-    let first = ap (headerIs (a .bytes .now)) (sym (s .1)) ∙ h .header-at .ensures in
+    let first = ap (headerIs (a .bytes .now)) (sym (s .1)) ∙ h .header-at .ensures .is in
     file-read (a .bytes .now) (a .table .now) (next (s .0 .0) (drop (s .0 .1 .0) (a .bytes .now))) first (c .before .before .read-body .ensures)
 
 pub read-spec : {M : Type 1} → statement M
