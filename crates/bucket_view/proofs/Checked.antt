@@ -17,7 +17,6 @@ use Rattle.index.proofs.Checks.{check-laws}
 use Rattle.calls.specs.Cells.{bucketOf}
 use Rattle.calls.specs.Calls.{tableChecks, Sound, viewChecks, viewed, viewNumber, partOf}
 use Rattle.calls.proofs.Laws.{table-check-laws}
-use Rattle.calls.proofs.Writers.{table-passed}
 
 module _ (s : Settings) (c : List ℕ) (b : ℕ) where
   pub view-stopped : {n : ℕ} → n ≡ numberOf (firstMet (tableChecks s c)) → n ≢ 0 → n ≡ viewNumber s c b
@@ -47,7 +46,7 @@ module _ (s : Settings) (c : List ℕ) (b : ℕ) where
       seen = go (numberOf (firstMet (tableChecks s c))) refl
         where
           go : (k : ℕ) → k ≡ numberOf (firstMet (tableChecks s c)) → Sound s c
-          go zero f = table-passed s c f refl
+          go zero f = table-check-laws s c .passed f refl
           go (suc k) f = absurd (omega (arith, view-stopped f (λ z. omega arith), e, h))
 
       below : b < s .buckets

@@ -8,28 +8,37 @@ use native.Mathlib.Omega.{arith}
 use borrow.Author.Tests.{eqb-true, not-false, lt-ltb, le-ltb}
 use lib.Dec.{eqb}
 use lib.ListN.{length}
-use Rattle.refusals.specs.Checks.{Check, firstMet}
-use Rattle.refusals.proofs.Cursor.{start, met, passed, none-left, all-met, all-passed, parts-passed, not-met, numbered-both}
+use Rattle.refusals.specs.Checks.{Check, firstMet, Numbered}
+use Rattle.refusals.proofs.Cursor.{start, met, passed, none-left, all-met, all-passed, parts-passed, not-met, numbered-both, number-passed}
 use Rattle.index.specs.Settings.{settingsChecks}
 use Rattle.index.specs.Hash.{tagChecks}
 use Rattle.index.specs.declared.Settings.{Settings}
 use Rattle.index.proofs.Checks.{check-laws}
-use Rattle.calls.specs.Calls.{tableChecks, scratchChecks, taggedChecks, holdChecks}
+use Rattle.calls.specs.Calls.{tableChecks, Sound, scratchChecks, taggedChecks, holdChecks}
 use Rattle.calls.specs.Model.{holdOf, modelChecks}
 use Rattle.calls.specs.Laws.{TableCheckLaws}
 use Rattle.calls.proofs.CheckOrder.{by-settings, by-size, table-passes}
 
 module _ (s : Settings) (c : List ℕ) where
+  numbered : Numbered (tableChecks s c)
+  unfolding tableChecks
+  numbered = numbered-both (settingsChecks s) (_ ∷ []) (check-laws s .numbered) (omega arith, tt)
+
+  sound : firstMet (tableChecks s c) ≡ none → Sound s c
+  unfolding tableChecks
+  sound e =
+      let q = parts-passed (settingsChecks s) (_ ∷ []) e in
+      record { settings = q .0; size = eqb-true (length c) (4 * s .buckets) (not-false (eqb (length c) (4 * s .buckets)) (not-met _ [] (q .1) .0)) }
+
   pub table-check-laws : TableCheckLaws s c
-  unfolding tableChecks scratchChecks
+  unfolding scratchChecks
   table-check-laws = record {
-    numbered = numbered-both (settingsChecks s) (_ ∷ []) (check-laws s .numbered) (omega arith, tt);
+    numbered = numbered;
     by-settings = by-settings s c;
     by-size = by-size s c;
-    sound = λ e.
-        let q = parts-passed (settingsChecks s) (_ ∷ []) e in
-        record { settings = q .0; size = eqb-true (length c) (4 * s .buckets) (not-false (eqb (length c) (4 * s .buckets)) (not-met _ [] (q .1) .0)) };
+    sound = sound;
     passes = table-passes s c;
+    passed = λ e h. sound (number-passed (tableChecks s c) e numbered h);
     scratch-passes = λ n h. none-left (passed (start (scratchChecks s n)) (le-ltb n (2 * s .buckets) h));
     scratch-refused = λ n h. met (start (scratchChecks s n)) (lt-ltb n (2 * s .buckets) h);
   }

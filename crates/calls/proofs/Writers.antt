@@ -15,22 +15,19 @@ use lib.Seq.{take-at}
 use Rattle.refusals.specs.Checks.{check, firstMet, numberOf}
 use Rattle.refusals.specs.Outcomes.{Answer, refused, given, unless, Done, done, outcome, keeping}
 use Rattle.refusals.specs.Laws.{Reached}
-use Rattle.refusals.proofs.Cursor.{start, met, passed, none-left, all-passed, parts-passed, not-met, number-passed, call-refused, call-goes-on, number-refuses}
+use Rattle.refusals.proofs.Cursor.{start, met, passed, none-left, all-passed, parts-passed, not-met, call-refused, call-goes-on, number-refuses}
 use Rattle.index.specs.declared.Settings.{Settings}
 use Rattle.calls.specs.Calls.{tableChecks, Sound}
 use Rattle.calls.specs.WrittenForms.{anyFrom, writeChecks, Written, written}
+use Rattle.calls.specs.Laws.{Wrote, WriterLaws}
 use Rattle.calls.proofs.Refusals.{table-check-laws}
-
--- ── the check of settings and table, by the number that the table's code gives ──
-pub table-passed : (s : Settings) (c : List ℕ) {n : ℕ} → n ≡ numberOf (firstMet (tableChecks s c)) → n ≡ 0 → Sound s c
-table-passed s c e h = table-check-laws s c .sound (number-passed (tableChecks s c) e (table-check-laws s c .numbered) h)
 
 -- ── a writer, whatever bytes it has to write ──
 module _ (s : Settings) (c bytes out : List ℕ) where
   abbrev wrote : Answer (Done ℕ (List ℕ))
   wrote = given (done (length bytes) (bytes ++ drop (length bytes) out))
 
-  pub write-stopped : {n : ℕ} → n ≡ numberOf (firstMet (tableChecks s c)) → n ≢ 0 → outcome (refused n) out ≡ written s c bytes out
+  write-stopped : {n : ℕ} → n ≡ numberOf (firstMet (tableChecks s c)) → n ≢ 0 → outcome (refused n) out ≡ written s c bytes out
   unfolding written writeChecks
   write-stopped e h = number-refuses out wrote (tableChecks s c) _ e h
 
@@ -39,26 +36,20 @@ module _ (s : Settings) (c bytes out : List ℕ) where
     unfolding writeChecks
     at-width = all-passed (tableChecks s c) _ (start _) (table-check-laws s c .passes S)
 
-    pub write-wide : anyFrom (2 ^ s .width) c ≡ true → outcome (refused 17) out ≡ written s c bytes out
+    write-wide : anyFrom (2 ^ s .width) c ≡ true → outcome (refused 17) out ≡ written s c bytes out
     unfolding written
     write-wide h = call-refused out wrote (met at-width h)
 
     module _ (fits : anyFrom (2 ^ s .width) c ≡ false) where
-      pub write-short : length out < length bytes → outcome (refused 16) out ≡ written s c bytes out
+      write-short : length out < length bytes → outcome (refused 16) out ≡ written s c bytes out
       unfolding written
       write-short h = call-refused out wrote (met (passed at-width fits) (lt-ltb _ _ h))
 
-      pub write-given : length bytes ≤ length out → outcome (given (length bytes)) (bytes ++ drop (length bytes) out) ≡ written s c bytes out
+      write-given : length bytes ≤ length out → outcome (given (length bytes)) (bytes ++ drop (length bytes) out) ≡ written s c bytes out
       unfolding written
       write-given h = call-goes-on out wrote (none-left (passed (passed at-width fits) (le-ltb _ _ h)))
 
   -- ── back from an accepted writing ──
-  pub record Wrote (n : ℕ) (l : List ℕ) : Type 0 where
-    pub sound : Sound s c
-    pub fits : anyFrom (2 ^ s .width) c ≡ false
-    -- the first n bytes of the output are the form's
-    pub first : take n l ≡ bytes
-
   none-met : firstMet (writeChecks s c (length out) (length bytes)) ≡ none → (Sound s c) × (anyFrom (2 ^ s .width) c ≡ false)
   unfolding writeChecks
   none-met e =
@@ -66,14 +57,17 @@ module _ (s : Settings) (c bytes out : List ℕ) where
       let q = parts-passed (tableChecks s c) (check 17 (anyFrom (2 ^ s .width) c) ∷ room ∷ []) e in
       (table-check-laws s c .sound (q .0), not-met (check 17 (anyFrom (2 ^ s .width) c)) (room ∷ []) (q .1) .0)
 
-  pub write-accepted : (n : ℕ) (l : List ℕ) → written s c bytes out ≡ outcome (given n) l → Wrote n l
+  write-accepted : (n : ℕ) (l : List ℕ) → written s c bytes out ≡ outcome (given n) l → Wrote s c bytes n l
   unfolding written
   write-accepted n l e = go (firstMet (writeChecks s c (length out) (length bytes))) refl e
     where
-      go : (o : Option ℕ) → firstMet (writeChecks s c (length out) (length bytes)) ≡ o → keeping out (unless o wrote) ≡ outcome (given n) l → Wrote n l
+      go : (o : Option ℕ) → firstMet (writeChecks s c (length out) (length bytes)) ≡ o → keeping out (unless o wrote) ≡ outcome (given n) l → Wrote s c bytes n l
       go (some k) f g = absurd (let a = ap (λ (x : Written). x .answer) g in let z : _≡_ {A = ℕ} 0 1 = cc in omega arith)
       go none f g =
           let a = ap (λ (x : Written). x .answer) g in
           let q : length bytes ≡ n = cc in
           let d = none-met f in
           record { sound = d .0; fits = d .1; first = ap (λ (x : Written). take n (x .leaves)) (sym g) ∙ take-at bytes (drop (length bytes) out) n q }
+
+  pub writer-laws : WriterLaws s c bytes out
+  writer-laws = record { stopped = λ e h. write-stopped e h; wide = write-wide; short = write-short; writes = write-given; accepted = write-accepted }

@@ -1,25 +1,26 @@
--- The laws of the calls' definitions, which the crates above use: what a scan finds, how many cells are filled, a queue without repeats, the checks of a table, and
--- how a table and a model that agree go on agreeing. `proofs/Laws.antt` proves them.
+-- The laws of the calls' definitions, which the crates above use: what a scan finds, how many cells are filled, a queue without repeats,
+-- the checks of a table and of a writer, and how a table and a model that agree go on agreeing. `proofs/Laws.antt` proves them.
 -- Assumes nothing.
 use mathlib.Core.Path.{_≡_}
 use mathlib.Core.Logic.{_≢_}
-use mathlib.Core.Bool.{false, cond}
+use mathlib.Core.Bool.{true, false, cond}
 use mathlib.Core.Option.{Option, none, some}
 use mathlib.Core.List.{List, [], _∷_, _++_, List·Permᴰ}
-use Prim.Native.Nat.{ℕ, _+_, _*_, _/_, _≤_, _<_}
+use Prim.Native.Nat.{ℕ, _+_, _*_, _/_, _^_, _≤_, _<_}
 use native.Mathlib.Decide.{decLe}
 use lib.Dec.{eqb}
-use lib.ListN.{length}
+use lib.ListN.{length, take, drop}
 use Rattle.lemmas.specs.Count.{occ, _among_}
 use Rattle.lemmas.specs.Sums.{sumTo, total}
-use Rattle.refusals.specs.Checks.{firstMet, Numbered}
-use Rattle.refusals.specs.Outcomes.{Outcome, keeping}
+use Rattle.refusals.specs.Checks.{firstMet, numberOf, Numbered}
+use Rattle.refusals.specs.Outcomes.{refused, given, Outcome, outcome, keeping}
 use Rattle.index.specs.Settings.{settingsRefusal}
 use Rattle.index.specs.Candidates.{Class, classAt}
 use Rattle.index.specs.declared.Settings.{Settings}
 use Rattle.calls.specs.Cells.{cell, scan, lowestEmpty, inFirst, filledCount}
 use Rattle.calls.specs.Search.{Node, marked, found, searchFor}
 use Rattle.calls.specs.Calls.{Said, Result, tableChecks, scratchChecks, Sound, fresh, lookupIn, releaseIn, holdIn}
+use Rattle.calls.specs.WrittenForms.{anyFrom, written}
 use Rattle.calls.specs.Multiset.{count, Same}
 use Rattle.calls.specs.AssignmentDecided.{decAssignable}
 use Rattle.calls.specs.Model.{Call, toHold, toRelease, toLookup, modelCall}
@@ -63,9 +64,26 @@ pub record TableCheckLaws (s : Settings) (c : List ℕ) : Type 0 where
   pub by-size : settingsRefusal s ≡ none → length c ≢ 4 * s .buckets → firstMet (tableChecks s c) ≡ some 5
   pub sound : firstMet (tableChecks s c) ≡ none → Sound s c
   pub passes : Sound s c → firstMet (tableChecks s c) ≡ none
+  -- the same from the number that a checking call gives
+  pub passed : {n : ℕ} → n ≡ numberOf (firstMet (tableChecks s c)) → n ≡ 0 → Sound s c
   -- scratch of at least 2 × M numbers passes, any other gives 6
   pub scratch-passes : (n : ℕ) → 2 * s .buckets ≤ n → firstMet (scratchChecks s n) ≡ none
   pub scratch-refused : (n : ℕ) → n < 2 * s .buckets → firstMet (scratchChecks s n) ≡ some 6
+
+-- ── a writer of either form, whatever bytes it has to write ──
+-- what an accepted writing tells: the first n bytes of the output are the form's
+pub record Wrote (s : Settings) (c bytes : List ℕ) (n : ℕ) (l : List ℕ) : Type 0 where
+  pub sound : Sound s c
+  pub fits : anyFrom (2 ^ s .width) c ≡ false
+  pub first : take n l ≡ bytes
+
+-- its checks in the order in which the code makes them, what it comes to where none is met, and back
+pub record WriterLaws (s : Settings) (c bytes out : List ℕ) : Type 0 where
+  pub stopped : {n : ℕ} → n ≡ numberOf (firstMet (tableChecks s c)) → n ≢ 0 → outcome (refused n) out ≡ written s c bytes out
+  pub wide : Sound s c → anyFrom (2 ^ s .width) c ≡ true → outcome (refused 17) out ≡ written s c bytes out
+  pub short : Sound s c → anyFrom (2 ^ s .width) c ≡ false → length out < length bytes → outcome (refused 16) out ≡ written s c bytes out
+  pub writes : Sound s c → anyFrom (2 ^ s .width) c ≡ false → length bytes ≤ length out → outcome (given (length bytes)) (bytes ++ drop (length bytes) out) ≡ written s c bytes out
+  pub accepted : (n : ℕ) (l : List ℕ) → written s c bytes out ≡ outcome (given n) l → Wrote s c bytes n l
 
 -- ── table and model ──
 -- what a cell of bucket b with value v weighs: what its class does, and nothing if it is empty

@@ -1,4 +1,4 @@
--- What the code uses of the definitions: how parts of a reading are inFront, the laws of the header, and which check refuses a writer.
+-- What the code uses of the definitions: how parts of a reading are joined, and the laws of the header.
 -- Assumes nothing.
 use mathlib.Core.Path.{_≡_, refl, sym, ap, _∙_, subst}
 use mathlib.Core.Bool.{Bool, true, false, cond, not}
@@ -25,7 +25,6 @@ use Rattle.file_form.specs.Laws.{HeaderLaws}
 use Rattle.file_form.proofs.Parses.{onward}
 use Rattle.file_form.proofs.Fields.{fit-length, spelled-same, FieldsBack, fields-back}
 use Rattle.file_form.proofs.Headers.{defaults-fit, fitting-map}
-pub use Rattle.calls.proofs.Writers.{table-passed, write-stopped, write-wide, write-short, write-given}
 
 -- ── parts of a reading ──
 pub field-stands : (t : Bool) (d : ℕ) (read : List ℕ → Parsed ℕ) (l : List ℕ) → t ≡ true → field t d read l ≡ read l

@@ -16,12 +16,11 @@ use Rattle.index.specs.Settings.{settingsRefusal}
 use Rattle.index.specs.declared.Settings.{Settings}
 use Rattle.calls.specs.Calls.{tableChecks, Sound}
 use Rattle.calls.specs.WrittenForms.{anyFrom}
-use Rattle.calls.proofs.Laws.{table-check-laws}
+use Rattle.calls.proofs.Laws.{table-check-laws, writer-laws}
 use Rattle.file_form.specs.Writer.{header, body, fileOf, writeFile}
 use Rattle.file_form.specs.Parsed.{Parsed, stop, next, andThen, checked, answerOf}
 use Rattle.file_form.specs.Reader.{readHeader, readBuckets, leftOver, afterBuckets, afterHeader, readAll, readFile, named, headerAnswer}
 use Rattle.file_form.specs.RoundTrip.{WrittenIsRead, ReadIsWritten, RefusedReadKeeps, HeaderTells}
-use Rattle.calls.proofs.Writers.{write-given, write-accepted}
 use Rattle.file_form.proofs.Parses.{onward, split, same-next, not-refused, not-checked}
 use Rattle.file_form.proofs.Headers.{header-read, header-back}
 use Rattle.file_form.proofs.Buckets.{buckets-read, buckets-back}
@@ -47,7 +46,7 @@ back s c t e lc lt small =
 again : (s : Settings) (c out l t : List ℕ) (n : ℕ) → writeFile s c out ≡ outcome (given n) l → length t ≡ 4 * s .buckets → readFile (take n l) t ≡ outcome (given s) c
 unfolding writeFile
 again s c out l t n e h =
-    let w = write-accepted s c (fileOf s c) out n l e in
+    let w = writer-laws s c (fileOf s c) out .accepted n l e in
     ap (λ (b : List ℕ). readFile b t) (w .first) ∙ back s c t (w .sound .settings) (w .sound .size) h (w .fits)
 
 pub written-is-read : WrittenIsRead
@@ -110,7 +109,7 @@ makes : (bytes t c out : List ℕ) (s : Settings) → AllBytes bytes → readFil
 unfolding writeFile
 makes bytes t c out s all e h =
     let a = accepted bytes t c s all e in
-    rw (a .same) (sym (write-given s c bytes out (a .sound) (a .small) h))
+    rw (a .same) (sym (writer-laws s c bytes out .writes (a .sound) (a .small) h))
 
 pub read-is-written : ReadIsWritten
 read-is-written = record { only = λ bytes t c s all e. accepted bytes t c s all e .same; makes = makes }

@@ -22,7 +22,7 @@ use Rattle.file_form.specs.Writer.{header, filled, bucketBytes, body, fileOf, w
 use Rattle.file_header.specs.Answers.{HeaderPut}
 use Rattle.holdfile.specs.Internal.{largerOf, bucketBytesAt}
 use Rattle.file_form.proofs.Laws.{header-laws}
-use Rattle.file_form.proofs.Laws.{write-short, write-given}
+use Rattle.calls.proofs.Laws.{writer-laws}
 
 -- ── parts ──
 -- a part that is there, and one that is left out
@@ -164,7 +164,7 @@ module _ (s : Settings) (c : List ℕ) (S : Sound s c) where
 
     pub answer-16 : length out < needed → outcome (refused 16) out ≡ writeFile s c out
     unfolding writeFile
-    answer-16 h = write-short s c (fileOf s c) out S fits (omega (arith, needed-is))
+    answer-16 h = writer-laws s c (fileOf s c) out .short S fits (omega (arith, needed-is))
 
     -- the header from 0 on, and the buckets behind it
     pub answer-written : needed ≤ length out → (mid after : List ℕ) (at : ℕ) → Put out mid 0 (header s) at → after ≡ sets mid at (body c) → outcome (given needed) after ≡ writeFile s c out
@@ -175,4 +175,4 @@ module _ (s : Settings) (c : List ℕ) (S : Sound s c) where
         let zero-add : 0 + length (header s ++ body c) ≡ length (header s ++ body c) = omega arith in
         let whole : after ≡ (header s ++ body c) ++ drop (length (header s ++ body c)) out =
         stored ∙ sets-eq (header s ++ body c) out 0 room ∙ ap (λ (x : ℕ). (header s ++ body c) ++ drop x out) zero-add in
-        ap₂ (λ (x : ℕ) (y : List ℕ). outcome (given x) y) needed-is whole ∙ write-given s c (header s ++ body c) out S fits (omega (arith, needed-is))
+        ap₂ (λ (x : ℕ) (y : List ℕ). outcome (given x) y) needed-is whole ∙ writer-laws s c (header s ++ body c) out .writes S fits (omega (arith, needed-is))

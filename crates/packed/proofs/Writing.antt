@@ -18,7 +18,7 @@ use Rattle.refusals.specs.Outcomes.{refused, given, outcome}
 use Rattle.index.specs.declared.Settings.{Settings}
 use Rattle.packed_form.specs.Writer.{sortBuckets, bucketBits, streamOf, packedLength, packedOf, writePacked}
 use Rattle.packed_form.specs.RoundTrip.{Packable}
-use Rattle.calls.proofs.Writers.{write-short, write-given}
+use Rattle.calls.proofs.Laws.{writer-laws}
 use Rattle.packed_form.proofs.Laws.{packed-laws}
 use Rattle.packed.specs.Internal.{Width, streamAt, BucketAt, PairFits, PairPut}
 use Rattle.packed.proofs.Bytes.{half-bits, half-fits, put-front, put-rest, tail-put}
@@ -254,9 +254,9 @@ module _ {w m : ℕ} {c out₀ out : List ℕ} {at b : ℕ} (W : Width w) (enoug
 -- ── the whole call ──
 pub call-short : (s : Settings) (c out : List ℕ) → Packable s c → length out < packedLength s → outcome (refused 16) out ≡ writePacked s c out
 unfolding writePacked
-call-short s c out P h = write-short s c (packedOf s c) out (P .sound) (P .fits) (omega (arith, packed-laws .packed-length s c))
+call-short s c out P h = writer-laws s c (packedOf s c) out .short (P .sound) (P .fits) (omega (arith, packed-laws .packed-length s c))
 
 pub call-writes : (s : Settings) (c out : List ℕ) → Packable s c → packedLength s ≤ length out
     → {n : ℕ} {o : List ℕ} → n ≡ packedLength s → o ≡ packedOf s c ++ drop (packedLength s) out → outcome (given n) o ≡ writePacked s c out
 unfolding writePacked
-call-writes s c out P h e f = rw (e, f, ← packed-laws .packed-length s c) (write-given s c (packedOf s c) out (P .sound) (P .fits) (omega (arith, packed-laws .packed-length s c)))
+call-writes s c out P h e f = rw (e, f, ← packed-laws .packed-length s c) (writer-laws s c (packedOf s c) out .writes (P .sound) (P .fits) (omega (arith, packed-laws .packed-length s c)))

@@ -17,7 +17,7 @@ use Rattle.packed_form.specs.Writer.{sortBuckets, bucketBits, streamOf, 
 use Rattle.packed_form.specs.Reader.{withCount, unpack, readPacked}
 use Rattle.packed_form.specs.RoundTrip.{Packable, PackedIsRead, ReadIsPacked}
 use Rattle.packed_form.proofs.Filled.{filled-sorted}
-use Rattle.calls.proofs.Writers.{write-given, write-accepted}
+use Rattle.calls.proofs.Laws.{writer-laws}
 use Rattle.packed_form.proofs.Refusals.{read-goes-on, read-accepted}
 use Rattle.packed_form.proofs.Streams.{Sorted, stream-below, unpack-stream, accepted}
 
@@ -51,7 +51,7 @@ again : (s : Settings) (c out l t : List ℕ) (n : ℕ) → writePacked s c out 
     → readPacked s (take n l) t ≡ outcome (given (filledCount c)) (sortBuckets c)
 unfolding writePacked
 again s c out l t n e h =
-    let w = write-accepted s c (packedOf s c) out n l e in
+    let w = writer-laws s c (packedOf s c) out .accepted n l e in
     ap (λ (b : List ℕ). readPacked s b t) (w .first) ∙ back s c (record { sound = w .sound; fits = w .fits }) t h
 
 pub packed-is-read : PackedIsRead
@@ -71,7 +71,7 @@ module _ (s : Settings) (bytes t c : List ℕ) (n : ℕ) (all : AllBytes bytes) 
 
   makes : (out : List ℕ) → length bytes ≤ length out → writePacked s c out ≡ outcome (given (length bytes)) (bytes ++ drop (length bytes) out)
   unfolding writePacked
-  makes out h = rw only (sym (write-given s c bytes out (accepted-packable .sound) (accepted-packable .fits) h))
+  makes out h = rw only (sym (writer-laws s c bytes out .writes (accepted-packable .sound) (accepted-packable .fits) h))
 
 pub read-is-packed : ReadIsPacked
 read-is-packed = record { only = λ s bytes t c n a e. only s bytes t c n a e; makes = λ s bytes t c out n a e h. makes s bytes t c n a e out h }

@@ -5,7 +5,7 @@ use Rattle.index.proofs.Laws.{laws}
 use Rattle.calls.specs.Calls.{Sound}
 use Rattle.file_form.specs.Parsed.{next}
 use Rattle.file_form.specs.Reader.{readBuckets}
-use Rattle.file_form.proofs.Laws.{table-passed}
+use Rattle.calls.proofs.Laws.{table-check-laws}
 use Rattle.holdfile.specs.Internal.{passIs, endOf}
 use Rattle.holdfile.proofs.Reading.{body-refused, body-left, body-stops, body-given, passed-of}
 use Rattle.holdfile.proofs.read_body.Statement.{statement}
@@ -19,7 +19,7 @@ abbrev checked : tie.After-end → tie.Else1
 checked c = c .before .before .before
 
 passes : (c : tie.Else1) → Sound (start c .args .s) (start c .args .table .now)
-passes c = table-passed _ _ (c .before .table-refusal .ensures) (c .if1 .left)
+passes c = table-check-laws _ _ .passed (c .before .table-refusal .ensures) (c .if1 .left)
 
 ends : (c : tie.After-end) → let a = start (checked c) .args in next tt (drop (c .end .given .0 .0) (a .bytes .now)) ≡ endOf (readBuckets (a .s .width) (a .s .buckets) (drop (a .at) (a .bytes .now)))
 ends c = ap (passIs (start (checked c) .args .bytes .now)) (sym (c .end .given .1)) ∙ c .before .before .check-buckets .ensures

@@ -6,7 +6,7 @@ use native.Mathlib.Omega.{arith}
 use Rattle.index.proofs.Laws.{laws}
 use Rattle.calls.specs.Calls.{Sound}
 use Rattle.file_form.specs.Writer.{header, body, fileOf, writeFile}
-use Rattle.file_form.proofs.Laws.{table-passed, write-stopped, write-wide}
+use Rattle.calls.proofs.Laws.{table-check-laws, writer-laws}
 use Rattle.holdfile.specs.declared.Size.{Size}
 use Rattle.holdfile.specs.Internal.{Sized}
 use Rattle.lemmas.specs.Stores.{Put}
@@ -27,7 +27,7 @@ sized c = c .before .before
 
 -- ── what is known there ──
 passes : (c : tie.Else1) → Sound (start c .args .s) (start c .args .table .now)
-passes c = table-passed _ _ (c .before .table-refusal .ensures) (c .if1 .left)
+passes c = table-check-laws _ _ .passed (c .before .table-refusal .ensures) (c .if1 .left)
 
 size : (c : tie.After-cells) → let a = start (checked c) .args in Sized (a .s .width) (a .table .now) (Size.Bytes (c .cells .given .0 .0))
 size c = let a = start (checked c) .args in subst (Sized (a .s .width) (a .table .now)) (c .cells .given .1) (c .before .before .body-size .ensures)
@@ -39,7 +39,7 @@ returns : tie.Need-returns
 unfolding writeFile
 returns c =
     let a = c .before .before .before .before .args in
-    write-stopped (a .s) (a .table .now) (fileOf (a .s) (a .table .now)) (a .out .now) (c .before .table-refusal .ensures) (c .if1 .taken)
+    writer-laws (a .s) (a .table .now) (fileOf (a .s) (a .table .now)) (a .out .now) .stopped (c .before .table-refusal .ensures) (c .if1 .taken)
 
 body-size-requires : tie.Need-body-size-requires
 body-size-requires c κs = let S = passes (c .before) in (laws _ (S .settings) .width-high, S .size)
@@ -50,7 +50,7 @@ returns-2 c =
     let e = c .before .before .before .before in
     let a = start e .args in
     let wide = subst (Sized (a .s .width) (a .table .now)) (c .enum-told .given .1) (c .before .before .body-size .ensures) in
-    write-wide (a .s) (a .table .now) (fileOf (a .s) (a .table .now)) (a .out .now) (passes e) wide
+    writer-laws (a .s) (a .table .now) (fileOf (a .s) (a .table .now)) (a .out .now) .wide (passes e) wide
 
 add-needed : tie.Need-add-needed
 add-needed c = omega (arith, needed c, needed-fits _ _ (passes (checked (sized c))))

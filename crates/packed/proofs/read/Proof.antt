@@ -1,7 +1,7 @@
 use borrow.Author.Needs.{needs}
 use native.Mathlib.Omega.{arith}
 use Rattle.calls.specs.Calls.{Sound}
-use Rattle.calls.proofs.Writers.{table-passed}
+use Rattle.calls.proofs.Laws.{table-check-laws}
 use Rattle.packed_form.proofs.Laws.{packed-laws}
 use Rattle.packed.proofs.Reading.{call-stops, call-passes, call-stores}
 use Rattle.packed.specs.Internal.{Input}
@@ -10,7 +10,7 @@ use Rattle.packed.proofs.read.Tie as tie
 
 -- past the check of settings and table
 passes : (c : tie.Else1) → let a = c .before .before .before .before .before .args in Sound (a .s) (a .table .now)
-passes c = table-passed _ _ (c .before .table-refusal .ensures) (c .if1 .left)
+passes c = table-check-laws _ _ .passed (c .before .table-refusal .ensures) (c .if1 .left)
 
 -- and past those of the length
 input : (c : tie.Else3) → let a = c .before .before .before .before .before .before .before .before .args in Input (a .s) (a .bytes .now)

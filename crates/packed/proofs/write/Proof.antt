@@ -3,7 +3,7 @@ use mathlib.Core.Path.{sym, _∙_}
 use native.Mathlib.Omega.{arith}
 use Rattle.index.proofs.Laws.{laws}
 use Rattle.calls.specs.Calls.{Sound}
-use Rattle.calls.proofs.Writers.{table-passed, write-stopped, write-wide}
+use Rattle.calls.proofs.Laws.{table-check-laws, writer-laws}
 use Rattle.packed_form.specs.RoundTrip.{Packable}
 use Rattle.packed_form.specs.Writer.{writePacked}
 use Rattle.packed.proofs.Bytes.{width-of}
@@ -13,7 +13,7 @@ use Rattle.packed.proofs.write.Tie as tie
 
 -- past the check of settings and table
 passes : (c : tie.Else1) → let a = c .before .before .before .before .args in Sound (a .s) (a .table .now)
-passes c = table-passed _ _ (c .before .table-refusal .ensures) (c .if1 .left)
+passes c = table-check-laws _ _ .passed (c .before .table-refusal .ensures) (c .if1 .left)
 
 -- and past that of the cells
 packable : (c : tie.Else2) → let a = c .before .before .before .before .before .before .args in Packable (a .s) (a .table .now)
@@ -21,14 +21,14 @@ packable c = record { sound = passes (c .before .before); fits = sym (c .before 
 
 returns : tie.Need-returns
 unfolding writePacked
-returns c = write-stopped _ _ _ _ (c .before .table-refusal .ensures) (c .if1 .taken)
+returns c = writer-laws _ _ _ _ .stopped (c .before .table-refusal .ensures) (c .if1 .taken)
 
 too-wide-requires : tie.Need-too-wide-requires
 too-wide-requires c κs = let S = passes c in (width-of _ (S .settings), omega (arith, laws _ (S .settings) .few-buckets, S .size))
 
 returns-2 : tie.Need-returns-2
 unfolding writePacked
-returns-2 c = write-wide _ _ _ _ (passes (c .before .before)) (sym (c .before .too-wide .ensures) ∙ c .if2 .taken)
+returns-2 c = writer-laws _ _ _ _ .wide (passes (c .before .before)) (sym (c .before .too-wide .ensures) ∙ c .if2 .taken)
 
 packed-length-requires : tie.Need-packed-length-requires
 packed-length-requires c κs = packable c .sound .settings

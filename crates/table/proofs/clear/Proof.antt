@@ -6,7 +6,7 @@ use mathlib.Core.List.{List, _++_}
 use mathlib.Core.Path.{_≡_, refl, ap, _∙_}
 use native.Mathlib.Omega.{arith}
 use Rattle.table.proofs.Guards.{clear-stopped, clear-done}
-use Rattle.calls.proofs.Writers.{table-passed}
+use Rattle.calls.proofs.Laws.{table-check-laws}
 use Rattle.table.proofs.clear.Statement.{statement}
 use Rattle.table.proofs.clear.Tie as tie
 
@@ -44,7 +44,7 @@ same-length-2 c = c .before .loop .inv .1
 returns-2 : tie.Need-returns-2 Inv-loop μ-loop
 returns-2 c =
     let e = c .before .before in
-    clear-done _ _ (table-passed _ _ (e .before .table-refusal .ensures) (e .if1 .left)) _ (c .before .loop .i) (c .before .loop .inv .0) (c .before .loop .inv .1) (c .loop-test .left)
+    clear-done _ _ (table-check-laws _ _ .passed (e .before .table-refusal .ensures) (e .if1 .left)) _ (c .before .loop .i) (c .before .loop .inv .0) (c .before .loop .inv .1) (c .loop-test .left)
 
 pub clear-spec : {M : Type 1} → statement M
 clear-spec =

@@ -4,14 +4,14 @@ use native.Mathlib.Omega.{arith}
 use Rattle.index.specs.Answers.{tagEntryIs}
 use Rattle.calls.specs.Calls.{Sound, release, releaseIn}
 use Rattle.table.proofs.Guards.{Known, placing, few, inside, known-found, tag-stopped, tag-refused, release-told, emptied-told}
-use Rattle.calls.proofs.Writers.{table-passed}
+use Rattle.calls.proofs.Laws.{table-check-laws}
 use Rattle.table.proofs.release.Statement.{statement}
 use Rattle.table.proofs.release.Tie as tie
 use Rattle.table.specs.Internal.{placeIs}
 
 -- past the check of settings and table
 passes : (c : tie.Else1) → let a = c .before .before .before .before .before .args in Sound (a .s) (a .table .now)
-passes c = table-passed _ _ (c .before .table-refusal .ensures) (c .if1 .left)
+passes c = table-check-laws _ _ .passed (c .before .table-refusal .ensures) (c .if1 .left)
 
 -- with the tag's entry and its candidates
 known : (c : tie.After-candidates) → let a = c .before .before .before .before .before .before .before .before .before .before .args in let g = c .before .before .p .given in

@@ -4,13 +4,13 @@ use native.Mathlib.Omega.{arith}
 use Rattle.index.specs.Answers.{tagEntryIs}
 use Rattle.calls.specs.Calls.{Sound}
 use Rattle.table.proofs.Guards.{home-inside}
-use Rattle.calls.proofs.Writers.{table-passed}
+use Rattle.calls.proofs.Laws.{table-check-laws}
 use Rattle.table.proofs.Placing.{hold-by-table, hold-by-scratch, hold-by-tag, hold-placed}
 use Rattle.table.proofs.search.hold.Statement.{statement}
 use Rattle.table.proofs.search.hold.Tie as tie
 
 passes : (c : tie.Else1) → let a = c .before .before .before .before .before .before .args in Sound (a .s) (a .table .now)
-passes c = table-passed _ _ (c .before .table-refusal .ensures) (c .if1 .left)
+passes c = table-check-laws _ _ .passed (c .before .table-refusal .ensures) (c .if1 .left)
 
 returns : tie.Need-returns
 returns c = hold-by-table _ _ _ _ (c .before .table-refusal .ensures) (c .if1 .taken)
