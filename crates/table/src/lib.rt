@@ -1,4 +1,5 @@
-// The table of a cuckoo filter: clear, lookup, release and hold over cells that the caller lends. Bucket b is cells 4b to 4b + 3, and 0 is an empty cell.
+// The table of a cuckoo filter: clear, lookup, release and hold over cells that the caller lends. Bucket
+// b is cells 4b to 4b + 3, and 0 is an empty cell.
 ghost use mathlib.Core.Path.{_≡_};
 ghost use Prim.Native.Nat.{ℕ, _+_, _*_, _%_, _<_, _≤_};
 ghost use lib.ListN.{length, take, set};
