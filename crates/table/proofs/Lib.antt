@@ -2,6 +2,7 @@
 pub mod Scratch
 pub mod Walks
 pub mod Scans
+pub mod Pairs
 pub mod Guards
 pub mod Placing
 pub mod Counting

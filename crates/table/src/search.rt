@@ -2,12 +2,12 @@
 // the marks stand in scratch as a sparse set, which is never cleared (specs/Internal.antt).
 ghost use mathlib.Core.Path.{_≡_};
 ghost use mathlib.Core.Bool.{false};
-ghost use mathlib.Core.List.{[]};
+ghost use mathlib.Core.List.{[], _∷_};
 ghost use Prim.Native.Nat.{ℕ, _+_, _*_, _-_, _<_, _≤_};
 ghost use lib.ListN.{length, take};
 ghost use Rattle.lemmas.specs.Count.{_among_};
 ghost use Rattle.refusals.specs.Outcomes.{outcome, keeping};
-ghost use Rattle.calls.specs.Cells.{lowestEmpty, inFirst};
+ghost use Rattle.calls.specs.Cells.{firstHolding, lowestEmpty, inFirst};
 ghost use Rattle.calls.specs.Search.{marked as markedIn, searchFrom, rootsFrom, relocate as relocated};
 ghost use Rattle.calls.specs.Calls.{Sound, holdIn};
 ghost use Rattle.table.specs.Answers.{holdIs, Holds};
@@ -16,7 +16,6 @@ use super::HoldAnswer;
 use super::Place;
 use super::SearchAnswer;
 use super::Visited;
-use super::scan;
 use super::table_refusal;
 use super::write_cell;
 use index::CandidateList;
@@ -29,12 +28,42 @@ fn wide(x: u32) -> usize
     x as usize
 }
 
-// The lowest empty cell of bucket b.
+fn product(x: u16, y: u16) -> u32
+    ensures { λ r. ⌜ r ≡ x * y ⌝ }
+{
+    x as u32 * y as u32
+}
+
+// The lower empty cell of a pair. Both cells are read, and the product is 0 exactly if one of them is empty:
+// one branch for the two, and none for which of them it is.
+fn empty_of_pair(pair: &[u16]) -> Place
+    requires { ⌜ length (now pair) ≡ 2 ⌝ }
+    ensures { λ r. ⌜ placeIs r ≡ firstHolding (now (pair .entry)) 0 (0 ∷ 1 ∷ []) ⌝ }
+{
+    let low = pair[0];
+    let high = pair[1];
+    if product(low, high) != 0 {
+        return Place::Nowhere;
+    }
+    Place::At((low != 0) as usize)
+}
+
+// The lowest empty cell of bucket b, pair by pair. A turn lends its pair alone, so that no cell after the first
+// pair with an empty one is read.
 fn lowest_empty(table: &[u16], b: usize) -> Place
     requires { ⌜ 4 * b + 4 ≤ length (now table) ⌝ }
     ensures { λ r. ⌜ placeIs r ≡ lowestEmpty (now (table .entry)) b ⌝ }
 {
-    scan(table, b, 0)
+    let mut j = 0;
+    while j < 2 {
+        let a = 4 * b + 2 * j;
+        let e = a + 2;
+        if let Place::At(i) = empty_of_pair(&table[a..e]) {
+            return Place::At(a + i);
+        }
+        j += 1;
+    }
+    Place::Nowhere
 }
 
 // The lowest empty cell of the first of the listed buckets that has one.

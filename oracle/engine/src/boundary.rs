@@ -118,17 +118,31 @@ impl Engine {
     }
 
     pub fn hold(self, s: Settings, table: &mut [u16], scratch: &mut [u32], tag: &[u8]) -> i64 {
-        unsafe {
-            holdlist_hold(
-                &Lent::of(s),
-                self.place_mut(table),
-                table.len(),
-                self.place_mut(scratch),
-                scratch.len(),
-                self.place(tag),
-                tag.len(),
-            )
-        }
+        unsafe { self.hold_at(s, self.place_mut(table), table.len(), scratch, tag) }
+    }
+
+    /// A hold in a table of which not every cell needs to be in reach.
+    ///
+    /// # Safety
+    ///
+    /// `table` is good for the cells of the `cells` that the hold reads or writes.
+    pub unsafe fn hold_at(
+        self,
+        s: Settings,
+        table: *mut u16,
+        cells: usize,
+        scratch: &mut [u32],
+        tag: &[u8],
+    ) -> i64 {
+        holdlist_hold(
+            &Lent::of(s),
+            table,
+            cells,
+            self.place_mut(scratch),
+            scratch.len(),
+            self.place(tag),
+            tag.len(),
+        )
     }
 
     pub fn view_check(self, s: Settings, table: &[u16], bucket: u32) -> i64 {
