@@ -60,10 +60,10 @@ of-lower false true a o = refl
 of-lower false false a o = refl
 
 of-pair : (c : List ℕ) (a : ℕ) (is : List ℕ) → foundAt a (firstHolding c 0 is) (emptyOf (pairAt c a)) ≡ firstHolding c 0 (a ∷ (a + 1) ∷ is)
-of-pair c a is = rw (here 0 a (omega arith) (omega arith), here 1 (a + 1) (omega arith) refl) (of-lower (eqb (cell c a) 0) (eqb (cell c (a + 1)) 0) a (firstHolding c 0 is))
+of-pair c a is = rw (as-lent 0 a (omega arith) (omega arith), as-lent 1 (a + 1) (omega arith) refl) (of-lower (eqb (cell c a) 0) (eqb (cell c (a + 1)) 0) a (firstHolding c 0 is))
   where
-    here : (i k : ℕ) → i < 2 → a + i ≡ k → cell (pairAt c a) i ≡ cell c k
-    here i k h e = getD-take (a + 2 - a) (drop a c) i 0 (omega (arith, h)) ∙ getD-drop a c i 0 ∙ ap (cell c) e
+    as-lent : (i k : ℕ) → i < 2 → a + i ≡ k → cell (pairAt c a) i ≡ cell c k
+    as-lent i k h e = getD-take (a + 2 - a) (drop a c) i 0 (omega (arith, h)) ∙ getD-drop a c i 0 ∙ ap (cell c) e
 
 -- ── the two pairs of a bucket in turn ──
 pair-of : (b j : ℕ) → j < 2 → drop (2 * j) (cellsOf b) ≡ (4 * b + 2 * j) ∷ (4 * b + 2 * j + 1) ∷ drop (2 * (j + 1)) (cellsOf b)
