@@ -70,6 +70,12 @@ int main(void)
     printf("look up ewe 3: %" PRId64 "\n", lookup(table, "ewe 3"));
     printf("look up the empty tag: %" PRId64 "\n", lookup(table, ""));
 
+    /* ewe 5 comes under a second order: one release does not clear it */
+    printf("hold ewe 5 again: %" PRId64 " moves\n", hold("ewe 5"));
+    printf("look up ewe 5: %" PRId64 "\n", lookup(table, "ewe 5"));
+    printf("release ewe 5: %" PRId64 "\n", release("ewe 5"));
+    printf("look up ewe 5: %" PRId64 "\n", lookup(table, "ewe 5"));
+
     /* saved, and read into another table, of the size that the file names */
     size = holdlist_file_write(&settings, LENT(table), file, sizeof file);
     printf("saved: %" PRId64 " bytes\n", size);
@@ -92,7 +98,7 @@ int main(void)
            holdlist_packed_read(&settings, packed, (size_t)size, LENT(copy)));
     for (int i = 0; i < held; i++) {
         sprintf(tag, "ewe %d", i);
-        found += (int)lookup(copy, tag);
+        found += lookup(copy, tag) > 0;
     }
     printf("found in it: %d\n", found);
     return 0;

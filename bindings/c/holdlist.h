@@ -176,9 +176,11 @@ int64_t holdlist_candidates(const holdlist_settings *settings, uint16_t fingerpr
 int64_t holdlist_clear(const holdlist_settings *settings, uint16_t *table, size_t table_count);
 
 /*
- * Looks a tag up. Answers 1 where it is held, 0 where it is clear. A tag that was held and not released is always
- * found, as long as nothing is released that was not held. One that was never held is found where another with its
- * fingerprint and candidates is held. Writes nothing. Refuses with 1 to 4, 5, 7.
+ * Looks a tag up. Answers how many copies of its fingerprint its candidate buckets have, each bucket counted once: 0
+ * where the tag is clear, above 0 where it is held. As long as nothing is released that was not held, a tag counts at
+ * least as often as it was held and not released, and beyond that only where another with its fingerprint and
+ * candidates is held; so a tag that was never held may count too. One release takes one copy out. Writes nothing.
+ * Refuses with 1 to 4, 5, 7.
  */
 int64_t holdlist_lookup(const holdlist_settings *settings, const uint16_t *table, size_t table_count,
                         const uint8_t *tag, size_t tag_count);

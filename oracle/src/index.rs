@@ -7,8 +7,9 @@ pub const PLAIN: u32 = 0;
 pub const RING: u32 = 1;
 pub const MASKED: u32 = 2;
 
-/// Four numbers as a caller hands them over, good or bad.
+/// Four numbers as a caller hands them over, good or bad, and as C's struct has them.
 #[derive(Clone, Copy, Debug, PartialEq, Eq)]
+#[repr(C)]
 pub struct Settings {
     pub rule: u32,
     pub width: u32,
@@ -26,6 +27,7 @@ impl Settings {
         }
     }
 
+    #[inline]
     pub fn check(self) -> Answer<()> {
         if ![PLAIN, RING, MASKED].contains(&self.rule) {
             return Err(1);
@@ -59,7 +61,8 @@ impl Settings {
     }
 
     /// The remainder of a hash by the modulus, which but for the ring is a power of two.
-    fn reduce(self, hash: u64) -> u32 {
+    #[inline]
+    pub(crate) fn reduce(self, hash: u64) -> u32 {
         match self.rule {
             RING => (hash % self.modulus()) as u32,
             _ => hash as u32 & (self.buckets - 1),
@@ -97,6 +100,7 @@ impl Settings {
     }
 
     /// The fingerprint and the home bucket of a tag, where the settings are known to be good.
+    #[inline]
     pub(crate) fn entry_unchecked(self, tag: &[u8]) -> Answer<(u16, u32)> {
         if tag.is_empty() || tag.len() > 64 {
             return Err(7);
@@ -135,6 +139,7 @@ impl Candidates {
 }
 
 /// The 64-bit FNV-1a hash.
+#[inline]
 pub fn fnv1a(bytes: &[u8]) -> u64 {
     bytes.iter().fold(14_695_981_039_346_656_037, |h, &b| {
         (h ^ u64::from(b)).wrapping_mul(1_099_511_628_211)

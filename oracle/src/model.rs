@@ -71,9 +71,11 @@ impl Model {
         Ok(found.is_some())
     }
 
-    pub fn lookup(&self, tag: &[u8]) -> Answer<bool> {
+    /// How many entries the tag's class has.
+    pub fn lookup(&self, tag: &[u8]) -> Answer<u32> {
         let class = self.class(tag, None)?;
-        Ok(self.entries.contains(&class))
+        let copies = self.entries.iter().filter(|&entry| *entry == class);
+        Ok(copies.count() as u32)
     }
 
     /// The entries, ascending.

@@ -21,6 +21,12 @@ impl Mix {
     pub fn bytes(&mut self, n: usize) -> Vec<u8> {
         (0..n).map(|_| self.draw() as u8).collect()
     }
+
+    pub fn shuffle<T>(&mut self, list: &mut [T]) {
+        for i in (1..list.len()).rev() {
+            list.swap(i, self.below(i as u64 + 1) as usize);
+        }
+    }
 }
 
 pub fn numbers(s: Settings) -> String {

@@ -6,7 +6,8 @@ use crate::index::{Answer, Settings};
 /// Cells in a bucket.
 const CELLS: usize = 4;
 
-fn check_table(settings: Settings, table: &[u16]) -> Answer<()> {
+#[inline]
+pub(crate) fn check_table(settings: Settings, table: &[u16]) -> Answer<()> {
     settings.check()?;
     if table.len() != CELLS * settings.buckets as usize {
         return Err(5);
@@ -38,22 +39,33 @@ pub fn clear(settings: Settings, table: &mut [u16]) -> Answer<()> {
     Ok(())
 }
 
-/// The cell where the fingerprint of a tag is found.
-fn find(settings: Settings, table: &[u16], tag: &[u8]) -> Answer<Option<usize>> {
+/// How many cells of a bucket have the value.
+fn cells_with(table: &[u16], bucket: u32, value: u16) -> usize {
+    let from = start(bucket);
+    let cells = &table[from..from + CELLS];
+    cells.iter().filter(|&&cell| cell == value).count()
+}
+
+/// How many copies of the tag's fingerprint its candidates hold. A bucket that is listed twice is
+/// one bucket.
+pub fn lookup(settings: Settings, table: &[u16], tag: &[u8]) -> Answer<u32> {
     check_table(settings, table)?;
     let (fingerprint, home) = settings.entry_unchecked(tag)?;
     let candidates = settings.candidates_unchecked(fingerprint, home);
-    Ok(first_with(table, candidates.as_slice(), fingerprint))
-}
-
-/// Whether the tag is held.
-pub fn lookup(settings: Settings, table: &[u16], tag: &[u8]) -> Answer<bool> {
-    Ok(find(settings, table, tag)?.is_some())
+    let list = candidates.as_slice();
+    let first_time = |&i: &usize| !list[..i].contains(&list[i]);
+    let copies = (0..list.len())
+        .filter(first_time)
+        .map(|i| cells_with(table, list[i], fingerprint));
+    Ok(copies.sum::<usize>() as u32)
 }
 
 /// Takes one entry of the tag out. False if there is none.
 pub fn release(settings: Settings, table: &mut [u16], tag: &[u8]) -> Answer<bool> {
-    let found = find(settings, table, tag)?;
+    check_table(settings, table)?;
+    let (fingerprint, home) = settings.entry_unchecked(tag)?;
+    let candidates = settings.candidates_unchecked(fingerprint, home);
+    let found = first_with(table, candidates.as_slice(), fingerprint);
     if let Some(cell) = found {
         table[cell] = 0;
     }

@@ -1,5 +1,6 @@
 //! The table held to the reference model, and its searches to a search written word for word.
 
+use oracle::fast;
 use oracle::index::{self, Answer, Settings, MASKED, PLAIN, RING};
 use oracle::model::{Class, Model};
 use oracle::requests::Mix;
@@ -155,6 +156,7 @@ impl Pair {
     fn lookup(&self, tag: &[u8]) {
         let answer = lookup(self.settings, &self.table, tag);
         assert_eq!(answer, self.model.lookup(tag));
+        assert_eq!(fast::lookup(&self.settings, &self.table, tag), answer);
     }
 
     fn compare(&self) {
@@ -344,6 +346,7 @@ fn refusals_in_order() {
         let other = if number == 6 { 7 } else { number };
         assert_eq!(release(settings, &mut table, &tag), Err(other));
         assert_eq!(lookup(settings, &table, &tag), Err(other));
+        assert_eq!(fast::lookup(&settings, &table, &tag), Err(other));
         let seen = if number > 5 { 8 } else { number };
         assert_eq!(view_check(settings, &table, bucket), seen);
         assert!(view(settings, &table, bucket).is_empty());
@@ -352,6 +355,38 @@ fn refusals_in_order() {
         }
         assert_eq!((table, scratch), (before, dirt));
     }
+}
+
+/// Copies over the candidate set in tables of any values, each bucket once: against a count of all
+/// cells whose bucket is a candidate.
+#[test]
+fn copies_in_any_table() {
+    let mut mix = Mix(8);
+    let (mut coinciding, mut most) = (0, 0);
+    for settings in small_settings() {
+        for _ in 0..40 {
+            let tag = mix.bytes(3);
+            let (fingerprint, home) = index::entry(settings, &tag).unwrap();
+            let candidates = index::candidates(settings, fingerprint, home).unwrap();
+            let table: Vec<u16> = (0..4 * settings.buckets)
+                .map(|_| match mix.below(3) {
+                    0 => fingerprint,
+                    1 => fingerprint ^ 1 << mix.below(16),
+                    _ => mix.draw() as u16,
+                })
+                .collect();
+            let expected = (0..table.len())
+                .filter(|&i| table[i] == fingerprint && candidates.contains(&(i as u32 / 4)))
+                .count() as u32;
+            assert_eq!(lookup(settings, &table, &tag), Ok(expected));
+            assert_eq!(fast::lookup(&settings, &table, &tag), Ok(expected));
+            let set: HashSet<u32> = candidates.iter().copied().collect();
+            coinciding += u32::from(set.len() < candidates.len());
+            most = most.max(expected);
+        }
+    }
+    assert!(coinciding > 100, "{coinciding}");
+    assert!(most > 8, "{most}");
 }
 
 #[test]

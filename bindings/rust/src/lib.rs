@@ -11,14 +11,14 @@
 //!
 //! let mut list = HoldList::new(Settings::ring(12, 1000))?;
 //! list.hold("gate 4, ewe 17")?;
-//! assert!(list.lookup("gate 4, ewe 17")?);
+//! assert!(list.is_held("gate 4, ewe 17")?);
 //!
 //! let bytes = list.save();
 //! let copy = HoldList::load(&bytes)?;
 //! assert_eq!(copy, list);
 //!
 //! assert!(list.release("gate 4, ewe 17")?);
-//! assert!(!list.lookup("gate 4, ewe 17")?);
+//! assert!(!list.is_held("gate 4, ewe 17")?);
 //! # Ok::<(), holdlist::Refusal>(())
 //! ```
 //!
@@ -114,7 +114,7 @@ impl HoldList {
     /// [`Refusal::Tag`], [`Refusal::Full`]. The list is then as it was.
     pub fn hold(&mut self, tag: impl AsRef<[u8]>) -> Result<u32, Refusal> {
         let moves = raw::hold(
-            self.settings,
+            &self.settings,
             &mut self.table,
             &mut self.scratch,
             tag.as_ref(),
@@ -132,17 +132,39 @@ impl HoldList {
     /// # Errors
     /// [`Refusal::Tag`].
     pub fn release(&mut self, tag: impl AsRef<[u8]>) -> Result<bool, Refusal> {
-        let released = raw::release(self.settings, &mut self.table, tag.as_ref())?;
+        let released = raw::release(&self.settings, &mut self.table, tag.as_ref())?;
         self.entries -= usize::from(released);
         Ok(released)
     }
 
-    /// Whether a tag is held.
+    /// How many entries a tag has: one for each time that it was held and not released, and those of
+    /// any other tag with the same fingerprint and the same candidates.
+    ///
+    /// ```
+    /// use holdlist::HoldList;
+    ///
+    /// let mut list = HoldList::default();
+    /// list.hold("ewe")?;
+    /// list.hold("ewe")?;
+    /// assert_eq!(list.copies("ewe"), Ok(2));
+    /// // one release does not clear it
+    /// list.release("ewe")?;
+    /// assert_eq!((list.copies("ewe"), list.is_held("ewe")), (Ok(1), Ok(true)));
+    /// # Ok::<(), holdlist::Refusal>(())
+    /// ```
     ///
     /// # Errors
     /// [`Refusal::Tag`].
-    pub fn lookup(&self, tag: impl AsRef<[u8]>) -> Result<bool, Refusal> {
-        raw::lookup(self.settings, &self.table, tag.as_ref())
+    pub fn copies(&self, tag: impl AsRef<[u8]>) -> Result<u32, Refusal> {
+        raw::lookup(&self.settings, &self.table, tag.as_ref())
+    }
+
+    /// Whether a tag is held: it has an entry.
+    ///
+    /// # Errors
+    /// [`Refusal::Tag`].
+    pub fn is_held(&self, tag: impl AsRef<[u8]>) -> Result<bool, Refusal> {
+        Ok(self.copies(tag)? > 0)
     }
 
     /// The four cells of a bucket. 0 is an empty cell, any other value a fingerprint.
@@ -161,7 +183,7 @@ impl HoldList {
     /// # Errors
     /// [`Refusal::Bucket`].
     pub fn view(&self, bucket: u32) -> Result<&[u16], Refusal> {
-        raw::view_check(self.settings, &self.table, bucket)?;
+        raw::view_check(&self.settings, &self.table, bucket)?;
         let at = 4 * bucket as usize;
         Ok(&self.table[at..at + 4])
     }
@@ -179,11 +201,11 @@ impl HoldList {
     /// let mut list = HoldList::default();
     /// list.hold("ewe")?;
     /// list.clear();
-    /// assert!(list.is_empty() && !list.lookup("ewe")?);
+    /// assert!(list.is_empty() && !list.is_held("ewe")?);
     /// # Ok::<(), holdlist::Refusal>(())
     /// ```
     pub fn clear(&mut self) {
-        sure(raw::clear(self.settings, &mut self.table));
+        sure(raw::clear(&self.settings, &mut self.table));
         self.entries = 0;
         self.longest = 0;
     }
@@ -202,7 +224,7 @@ impl HoldList {
     pub fn save(&self) -> Vec<u8> {
         // the map and four fields take at most 7 bytes, a bucket its byte, and an entry two
         let mut out = vec![0; 7 + self.settings.buckets as usize + 2 * self.entries];
-        let count = sure(raw::file_write(self.settings, &self.table, &mut out));
+        let count = sure(raw::file_write(&self.settings, &self.table, &mut out));
         out.truncate(count);
         out
     }
@@ -243,7 +265,7 @@ impl HoldList {
         let Settings { width, buckets, .. } = self.settings;
         // a bucket takes 4 × (width − 1) bits
         let mut out = vec![0; ((width as usize - 1) * buckets as usize + 1) / 2];
-        let count = sure(raw::packed_write(self.settings, &self.table, &mut out));
+        let count = sure(raw::packed_write(&self.settings, &self.table, &mut out));
         out.truncate(count);
         out
     }
@@ -265,7 +287,7 @@ impl HoldList {
     pub fn unpack(settings: Settings, bytes: &[u8]) -> Result<HoldList, Refusal> {
         settings.check()?;
         let mut table = vec![0; settings.cells()];
-        let entries = raw::packed_read(settings, bytes, &mut table)?;
+        let entries = raw::packed_read(&settings, bytes, &mut table)?;
         Ok(HoldList::of(settings, table, entries))
     }
 

@@ -100,11 +100,12 @@ mod c {
 /// The library takes settings as four 32-bit numbers in a row.
 const _: () = assert!(size_of::<Settings>() == 4 * size_of::<u32>());
 
-/// A call with settings and the pointers and counts of slices. SAFETY: as the module says.
+/// A call with settings, which are lent where they stand, and the pointers and counts of slices.
+/// SAFETY: as the module says.
 macro_rules! call {
     ($f:ident, $s:expr $(, $a:expr)*) => {{
-        let s: Settings = $s;
-        told(unsafe { c::$f(&s $(, $a)*) })
+        let s: &Settings = $s;
+        told(unsafe { c::$f(s $(, $a)*) })
     }};
 }
 
@@ -119,24 +120,24 @@ fn told(result: i64) -> Result<usize, Refusal> {
     Err(refusal.expect("every refusal has a number that is listed"))
 }
 
-pub fn settings_check(s: Settings) -> Result<(), Refusal> {
+pub fn settings_check(s: &Settings) -> Result<(), Refusal> {
     call!(holdlist_settings_check, s).map(drop)
 }
 
-pub fn fingerprint(s: Settings, tag: &[u8]) -> Result<u16, Refusal> {
+pub fn fingerprint(s: &Settings, tag: &[u8]) -> Result<u16, Refusal> {
     call!(holdlist_fingerprint, s, tag.as_ptr(), tag.len()).map(|p| p as u16)
 }
 
-pub fn home(s: Settings, tag: &[u8]) -> Result<u32, Refusal> {
+pub fn home(s: &Settings, tag: &[u8]) -> Result<u32, Refusal> {
     call!(holdlist_home, s, tag.as_ptr(), tag.len()).map(|b| b as u32)
 }
 
-pub fn offset(s: Settings, fingerprint: u16) -> Result<u32, Refusal> {
+pub fn offset(s: &Settings, fingerprint: u16) -> Result<u32, Refusal> {
     call!(holdlist_offset, s, fingerprint).map(|d| d as u32)
 }
 
 pub fn candidates(
-    s: Settings,
+    s: &Settings,
     fingerprint: u16,
     bucket: u32,
     out: &mut [u32; 4],
@@ -150,11 +151,11 @@ pub fn candidates(
     )
 }
 
-pub fn clear(s: Settings, table: &mut [u16]) -> Result<(), Refusal> {
+pub fn clear(s: &Settings, table: &mut [u16]) -> Result<(), Refusal> {
     call!(holdlist_clear, s, table.as_mut_ptr(), table.len()).map(drop)
 }
 
-pub fn lookup(s: Settings, table: &[u16], tag: &[u8]) -> Result<bool, Refusal> {
+pub fn lookup(s: &Settings, table: &[u16], tag: &[u8]) -> Result<u32, Refusal> {
     call!(
         holdlist_lookup,
         s,
@@ -163,10 +164,10 @@ pub fn lookup(s: Settings, table: &[u16], tag: &[u8]) -> Result<bool, Refusal> {
         tag.as_ptr(),
         tag.len()
     )
-    .map(|n| n == 1)
+    .map(|copies| copies as u32)
 }
 
-pub fn release(s: Settings, table: &mut [u16], tag: &[u8]) -> Result<bool, Refusal> {
+pub fn release(s: &Settings, table: &mut [u16], tag: &[u8]) -> Result<bool, Refusal> {
     call!(
         holdlist_release,
         s,
@@ -179,7 +180,7 @@ pub fn release(s: Settings, table: &mut [u16], tag: &[u8]) -> Result<bool, Refus
 }
 
 pub fn hold(
-    s: Settings,
+    s: &Settings,
     table: &mut [u16],
     scratch: &mut [u32],
     tag: &[u8],
@@ -197,11 +198,11 @@ pub fn hold(
     .map(|moves| moves as u32)
 }
 
-pub fn view_check(s: Settings, table: &[u16], bucket: u32) -> Result<(), Refusal> {
+pub fn view_check(s: &Settings, table: &[u16], bucket: u32) -> Result<(), Refusal> {
     call!(holdlist_view_check, s, table.as_ptr(), table.len(), bucket).map(drop)
 }
 
-pub fn file_write(s: Settings, table: &[u16], out: &mut [u8]) -> Result<usize, Refusal> {
+pub fn file_write(s: &Settings, table: &[u16], out: &mut [u8]) -> Result<usize, Refusal> {
     call!(
         holdlist_file_write,
         s,
@@ -234,7 +235,7 @@ pub fn file_read(bytes: &[u8], table: &mut [u16]) -> Result<Settings, Refusal> {
     Ok(settings)
 }
 
-pub fn packed_write(s: Settings, table: &[u16], out: &mut [u8]) -> Result<usize, Refusal> {
+pub fn packed_write(s: &Settings, table: &[u16], out: &mut [u8]) -> Result<usize, Refusal> {
     call!(
         holdlist_packed_write,
         s,
@@ -245,7 +246,7 @@ pub fn packed_write(s: Settings, table: &[u16], out: &mut [u8]) -> Result<usize,
     )
 }
 
-pub fn packed_read(s: Settings, bytes: &[u8], table: &mut [u16]) -> Result<usize, Refusal> {
+pub fn packed_read(s: &Settings, bytes: &[u8], table: &mut [u16]) -> Result<usize, Refusal> {
     call!(
         holdlist_packed_read,
         s,
@@ -270,14 +271,17 @@ mod tests {
         let mut table = [7u16; 5];
         let mut scratch = [3u32; 2];
         let mut out = [9u8; 20];
-        assert_eq!(clear(S, &mut table), Err(Refusal::Table));
-        assert_eq!(lookup(S, &table, b"a"), Err(Refusal::Table));
-        assert_eq!(release(S, &mut table, b"a"), Err(Refusal::Table));
-        assert_eq!(hold(S, &mut table, &mut scratch, b"a"), Err(Refusal::Table));
-        assert_eq!(view_check(S, &table, 0), Err(Refusal::Table));
-        assert_eq!(file_write(S, &table, &mut out), Err(Refusal::Table));
-        assert_eq!(packed_write(S, &table, &mut out), Err(Refusal::Table));
-        assert_eq!(packed_read(S, &[0x33, 0], &mut table), Err(Refusal::Table));
+        assert_eq!(clear(&S, &mut table), Err(Refusal::Table));
+        assert_eq!(lookup(&S, &table, b"a"), Err(Refusal::Table));
+        assert_eq!(release(&S, &mut table, b"a"), Err(Refusal::Table));
+        assert_eq!(
+            hold(&S, &mut table, &mut scratch, b"a"),
+            Err(Refusal::Table)
+        );
+        assert_eq!(view_check(&S, &table, 0), Err(Refusal::Table));
+        assert_eq!(file_write(&S, &table, &mut out), Err(Refusal::Table));
+        assert_eq!(packed_write(&S, &table, &mut out), Err(Refusal::Table));
+        assert_eq!(packed_read(&S, &[0x33, 0], &mut table), Err(Refusal::Table));
         assert_eq!(file_read(&[6, 4, 0, 0, 0], &mut table), Err(Refusal::Table));
         assert_eq!((table, scratch, out), ([7; 5], [3; 2], [9; 20]));
     }
@@ -285,9 +289,9 @@ mod tests {
     #[test]
     fn settings_are_checked_before_the_table() {
         let bad = Settings::plain(3, 1);
-        assert_eq!(clear(bad, &mut []), Err(Refusal::Width));
-        assert_eq!(lookup(bad, &[], b""), Err(Refusal::Width));
-        assert_eq!(packed_read(bad, &[], &mut []), Err(Refusal::Width));
+        assert_eq!(clear(&bad, &mut []), Err(Refusal::Width));
+        assert_eq!(lookup(&bad, &[], b""), Err(Refusal::Width));
+        assert_eq!(packed_read(&bad, &[], &mut []), Err(Refusal::Width));
     }
 
     #[test]
@@ -295,12 +299,12 @@ mod tests {
         let mut table = [0u16; 4];
         let mut scratch = [3u32; 1];
         assert_eq!(
-            hold(S, &mut table, &mut scratch, b""),
+            hold(&S, &mut table, &mut scratch, b""),
             Err(Refusal::Scratch)
         );
         assert_eq!((table, scratch), ([0; 4], [3]));
         // more than is needed passes
-        assert_eq!(hold(S, &mut table, &mut [3; 7], b"a"), Ok(0));
+        assert_eq!(hold(&S, &mut table, &mut [3; 7], b"a"), Ok(0));
     }
 
     #[test]
@@ -308,7 +312,7 @@ mod tests {
         let mut table = [0u16; 4];
         let mut scratch = [3u32; 2];
         assert_eq!(
-            hold(S, &mut table, &mut scratch, &[0; 65]),
+            hold(&S, &mut table, &mut scratch, &[0; 65]),
             Err(Refusal::Tag)
         );
         assert_eq!(scratch, [3; 2]);
@@ -318,8 +322,8 @@ mod tests {
     fn a_cell_too_large_is_refused_with_17_before_a_short_output() {
         let table = [0, 16, 0, 0];
         let mut out = [9u8; 1];
-        assert_eq!(file_write(S, &table, &mut out), Err(Refusal::Cell));
-        assert_eq!(packed_write(S, &table, &mut out), Err(Refusal::Cell));
+        assert_eq!(file_write(&S, &table, &mut out), Err(Refusal::Cell));
+        assert_eq!(packed_write(&S, &table, &mut out), Err(Refusal::Cell));
         assert_eq!(out, [9]);
     }
 
@@ -327,8 +331,11 @@ mod tests {
     fn a_short_output_is_refused_with_16() {
         let table = [0, 9, 0, 3];
         let mut out = [9u8; 8];
-        assert_eq!(file_write(S, &table, &mut out), Err(Refusal::Output));
-        assert_eq!(packed_write(S, &table, &mut out[..1]), Err(Refusal::Output));
+        assert_eq!(file_write(&S, &table, &mut out), Err(Refusal::Output));
+        assert_eq!(
+            packed_write(&S, &table, &mut out[..1]),
+            Err(Refusal::Output)
+        );
         assert_eq!(out, [9; 8]);
     }
 
@@ -336,19 +343,19 @@ mod tests {
     fn later_bytes_of_an_output_keep_their_values() {
         let table = [0, 9, 0, 3];
         let mut out = [0xee; 12];
-        assert_eq!(file_write(S, &table, &mut out), Ok(9));
+        assert_eq!(file_write(&S, &table, &mut out), Ok(9));
         assert_eq!(out, [6, 4, 0, 0, 0x0a, 9, 0, 3, 0, 0xee, 0xee, 0xee]);
         let mut out = [0xee; 4];
-        assert_eq!(packed_write(S, &table, &mut out), Ok(2));
+        assert_eq!(packed_write(&S, &table, &mut out), Ok(2));
         assert_eq!(out, [0x33, 0, 0xee, 0xee]);
     }
 
     #[test]
     fn a_refused_call_leaves_its_four_places() {
         let mut out = [8; 4];
-        assert_eq!(candidates(S, 5, 1, &mut out), Err(Refusal::Bucket));
+        assert_eq!(candidates(&S, 5, 1, &mut out), Err(Refusal::Bucket));
         assert_eq!(out, [8; 4]);
-        assert_eq!(candidates(Settings::plain(12, 8), 5, 1, &mut out), Ok(2));
+        assert_eq!(candidates(&Settings::plain(12, 8), 5, 1, &mut out), Ok(2));
         assert_eq!((out[0], out[2], out[3]), (1, 0, 0));
     }
 

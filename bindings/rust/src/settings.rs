@@ -85,7 +85,7 @@ impl Settings {
     /// [`Refusal::Rule`], [`Refusal::Width`], [`Refusal::Buckets`] or [`Refusal::Mask`]: the first
     /// that applies.
     pub fn check(self) -> Result<(), Refusal> {
-        raw::settings_check(self)
+        raw::settings_check(&self)
     }
 
     /// The fingerprint of a tag, 1 to 2^width − 1.
@@ -93,7 +93,7 @@ impl Settings {
     /// # Errors
     /// As [`Settings::check`], then [`Refusal::Tag`].
     pub fn fingerprint(self, tag: impl AsRef<[u8]>) -> Result<u16, Refusal> {
-        raw::fingerprint(self, tag.as_ref())
+        raw::fingerprint(&self, tag.as_ref())
     }
 
     /// The home bucket of a tag.
@@ -101,7 +101,7 @@ impl Settings {
     /// # Errors
     /// As [`Settings::check`], then [`Refusal::Tag`].
     pub fn home(self, tag: impl AsRef<[u8]>) -> Result<u32, Refusal> {
-        raw::home(self, tag.as_ref())
+        raw::home(&self, tag.as_ref())
     }
 
     /// The offset by which the candidates of a fingerprint lie apart. Any 16-bit value has one.
@@ -109,7 +109,7 @@ impl Settings {
     /// # Errors
     /// As [`Settings::check`].
     pub fn offset(self, fingerprint: u16) -> Result<u32, Refusal> {
-        raw::offset(self, fingerprint)
+        raw::offset(&self, fingerprint)
     }
 
     /// The candidate buckets of a fingerprint that stands in a bucket, in order. The first is the
@@ -129,7 +129,7 @@ impl Settings {
     /// As [`Settings::check`], then [`Refusal::Bucket`].
     pub fn candidates(self, fingerprint: u16, bucket: u32) -> Result<Vec<u32>, Refusal> {
         let mut out = [0; 4];
-        let count = raw::candidates(self, fingerprint, bucket, &mut out)?;
+        let count = raw::candidates(&self, fingerprint, bucket, &mut out)?;
         Ok(out[..count].to_vec())
     }
 

@@ -32,7 +32,7 @@ fn filled(settings: Settings) -> (HoldList, usize) {
 }
 
 fn finds_all(list: &HoldList, tags: usize) -> bool {
-    (0..tags).all(|i| list.lookup(tag(i)).unwrap())
+    (0..tags).all(|i| list.is_held(tag(i)).unwrap())
 }
 
 // ── refusals ──
@@ -127,7 +127,8 @@ fn a_tag_of_bad_length_is_refused_with_7() {
     let before = list.clone();
     for bad in [vec![], vec![1; 65], vec![1; 1000]] {
         assert_eq!(list.hold(&bad), Err(Refusal::Tag));
-        assert_eq!(list.lookup(&bad), Err(Refusal::Tag));
+        assert_eq!(list.copies(&bad), Err(Refusal::Tag));
+        assert_eq!(list.is_held(&bad), Err(Refusal::Tag));
         assert_eq!(list.release(&bad), Err(Refusal::Tag));
         assert_eq!(list.settings().fingerprint(&bad), Err(Refusal::Tag));
         assert_eq!(list.settings().home(&bad), Err(Refusal::Tag));
@@ -136,7 +137,7 @@ fn a_tag_of_bad_length_is_refused_with_7() {
     assert_eq!(list.len(), 10);
     for good in [vec![0; 1], vec![0; 64]] {
         assert_eq!(list.hold(&good), Ok(0));
-        assert_eq!(list.lookup(&good), Ok(true));
+        assert_eq!(list.copies(&good), Ok(1));
         assert_eq!(list.release(&good), Ok(true));
     }
     assert_eq!(list, before);
@@ -442,11 +443,15 @@ fn a_tag_may_be_held_twice() {
     list.hold("ewe").unwrap();
     list.hold(b"ewe").unwrap();
     assert_eq!(list.len(), 2);
+    assert_eq!((list.copies("ewe"), list.is_held("ewe")), (Ok(2), Ok(true)));
     assert_eq!(list.release("ewe"), Ok(true));
-    assert_eq!(list.lookup("ewe"), Ok(true));
+    assert_eq!((list.copies("ewe"), list.is_held("ewe")), (Ok(1), Ok(true)));
     assert_eq!(list.release("ewe"), Ok(true));
     assert_eq!(list.release("ewe"), Ok(false));
-    assert_eq!(list.lookup("ewe"), Ok(false));
+    assert_eq!(
+        (list.copies("ewe"), list.is_held("ewe")),
+        (Ok(0), Ok(false))
+    );
 }
 
 #[test]

@@ -12,7 +12,7 @@ use lib.ListN.{length}
 use Rattle.lemmas.specs.Count.{hit, _among_}
 use Rattle.lemmas.proofs.Count.{T-of, eqb-ne, hit-cases, hit-refl, hit-of, hit-ne, hit-eq}
 use Rattle.calls.specs.Laws.{Finds}
-use Rattle.calls.specs.Cells.{cell, cellsOf, firstHolding, scan, lowestEmpty, orElse, inFirst, filledCount}
+use Rattle.calls.specs.Cells.{cell, cellsOf, firstHolding, scan, copiesAt, lowestAt, lowestEmpty, orElse, inFirst, filledCount}
 
 -- ── the cells of a bucket are those whose number over 4 is the bucket's ──
 pub cells-of : (b i : ℕ) → i among cellsOf b → i / 4 ≡ b
@@ -56,13 +56,20 @@ of-bucket c v b = go (firstHolding c v (cellsOf b)) (finds-at c v (cellsOf b))
     go none f = λ i h. f i (in-cells b i (hit-eq (i / 4) b (omega arith)))
     go (some i) f = (f .0, omega (arith, hit-of (i / 4) b (cells-of b i (f .1))))
 
-pub scan-finds : (c : List ℕ) (p b : ℕ) → Finds c p (b ∷ []) (scan c p b)
+pub scan-finds : (c : List ℕ) (p b : ℕ) → Finds c p (b ∷ []) (lowestAt c p b)
 unfolding scan
 scan-finds c p b = of-bucket c p b
 
 pub empty-finds : (c : List ℕ) (b : ℕ) → Finds c 0 (b ∷ []) (lowestEmpty c b)
 unfolding lowestEmpty
 empty-finds c b = of-bucket c 0 b
+
+pub scan-most : (c : List ℕ) (p b : ℕ) → copiesAt c p b ≤ 4
+unfolding scan
+scan-most c p b = omega (arith, hit-most (cell c (4 * b)) p, hit-most (cell c (4 * b + 1)) p, hit-most (cell c (4 * b + 2)) p, hit-most (cell c (4 * b + 3)) p)
+  where
+    hit-most : (x y : ℕ) → hit x y ≤ 1
+    hit-most x y = elim (hit-cases x y) [ inl e ↦ omega (arith, hit-of x y e) | inr z ↦ omega arith ]
 
 -- the first bucket that has something
 pub first-finds : (c : List ℕ) (v : ℕ) (f : ℕ → Option ℕ) → ((b : ℕ) → Finds c v (b ∷ []) (f b)) → (bs : List ℕ) → Finds c v bs (inFirst f bs)

@@ -6,7 +6,6 @@ use mathlib.Core.Option.{none}
 use mathlib.Core.List.{List, [], _∷_, _++_}
 use Prim.Native.Nat.{ℕ, _*_, _≤_}
 use native.Mathlib.Omega.{arith}
-use native.Mathlib.Decide.{decLe}
 use lib.ListN.{length, length-replicate, getD-replicate}
 use Rattle.lemmas.specs.Sums.{total}
 use Rattle.lemmas.proofs.Sums.{sum-zero, total-one}
@@ -21,11 +20,11 @@ use Rattle.index.specs.declared.Settings.{Settings}
 use Rattle.index.proofs.Laws.{laws}
 use Rattle.index.proofs.Checks.{check-laws}
 use Rattle.calls.specs.Cells.{cell}
-use Rattle.calls.specs.Calls.{Said, cleared, held, clear, released, absent, accepted, scratchChecks, fresh, clearTable}
+use Rattle.calls.specs.Calls.{Said, cleared, released, absent, accepted, copies, Held, scratchChecks, fresh, clearTable}
 use Rattle.calls.specs.Multiset.{count}
 use Rattle.calls.specs.Assignment.{Assignable}
 use Rattle.calls.specs.AssignmentDecided.{decAssignable}
-use Rattle.calls.specs.Model.{Call, holdOf, lookupOf, toHold, toLookup, modelChecks}
+use Rattle.calls.specs.Model.{Call, holdOf, lookupOf, toHold, modelChecks}
 use Rattle.calls.specs.Demand.{tableCall, run, entries, forgetMoves, forget, Demand3}
 use Rattle.calls.specs.Laws.{Agree, Step}
 use Rattle.calls.proofs.Refusals.{table-check-laws}
@@ -37,17 +36,16 @@ forget-refused : (r : Answer Said) (n : ℕ) → forget r ≡ refused n → r �
 forget-refused (refused m) n e = e
 forget-refused (given x) n e = cc
 
-said-held : (x : Said) → forgetMoves x ≡ held → x ≡ held
-said-held (accepted m) e = cc
-said-held cleared e = cc
-said-held held e = e
-said-held clear e = cc
-said-held released e = cc
-said-held absent e = cc
+said-copies : (x : Said) (n : ℕ) → forgetMoves x ≡ copies n → x ≡ copies n
+said-copies (copies m) n e = e
+said-copies (accepted m) n e = cc
+said-copies cleared n e = cc
+said-copies released n e = cc
+said-copies absent n e = cc
 
-pub forget-held : (r : Answer Said) → forget r ≡ given held → r ≡ given held
-forget-held (refused m) e = cc
-forget-held (given x) e = ap given (said-held x (let f : forgetMoves x ≡ held = cc in f))
+pub forget-copies : (r : Answer Said) (n : ℕ) → forget r ≡ given (copies n) → r ≡ given (copies n)
+forget-copies (refused m) n e = cc
+forget-copies (given x) n e = ap given (said-copies x n (let f : forgetMoves x ≡ copies n = cc in f))
 
 module _ (s : Settings) (L : Laws s) where
   fresh-empty : (w : Class → ℕ) → total w (entries s (fresh s)) ≡ 0
@@ -68,13 +66,11 @@ module _ (s : Settings) (L : Laws s) where
         go (yes a) r = (λ q. let z : _≡_ {A = ℕ} 0 1 = cc (r .reply, ap forget q) in absurd (omega arith), λ m. absurd (m a))
         go (no a) r = (λ q. a, λ m. forget-refused _ 9 (r .reply))
 
-    held-if : (t : List ℕ) → firstMet (modelChecks s (lookupOf t)) ≡ none → (tableCall s c (lookupOf t) .answer ≡ given held) ↔ (1 ≤ count (classOf s t) E)
-    held-if t e = rw (table-call s L c E A (lookupOf t), e) (go (decLe 1 (count (classOf s t) E)) (step-act s L c E A (lookupOf t)))
-      where
-        go : (d : Dec (1 ≤ count (classOf s t) E)) → Step s c (keeping c (tableAct s L c E A (lookupOf t))) (keeping E (toLookup (classOf s t) E d))
-            → (keeping c (tableAct s L c E A (lookupOf t)) .answer ≡ given held) ↔ (1 ≤ count (classOf s t) E)
-        go (yes a) r = (λ q. a, λ m. forget-held _ (r .reply))
-        go (no a) r = (λ q. let z : _≡_ {A = ℕ} 0 1 = cc (r .reply, ap forget q) in absurd (omega arith), λ m. absurd (a m))
+    copies-of : (t : List ℕ) → firstMet (modelChecks s (lookupOf t)) ≡ none → tableCall s c (lookupOf t) .answer ≡ given (copies (count (classOf s t) E))
+    copies-of t e = rw (table-call s L c E A (lookupOf t), e) (forget-copies _ _ (step-act s L c E A (lookupOf t) .reply))
+
+    held-if : (t : List ℕ) → firstMet (modelChecks s (lookupOf t)) ≡ none → Held (tableCall s c (lookupOf t) .answer) ↔ (1 ≤ count (classOf s t) E)
+    held-if t e = rw (copies-of t e) (λ h. h, λ h. h)
 
 -- clear leaves the fresh table
 clear-starts : (s : Settings) → settingsRefusal s ≡ none → (c : List ℕ) → length c ≡ 4 * s .buckets → clearTable s c ≡ outcome (given cleared) (fresh s)
@@ -100,6 +96,7 @@ by-laws s L e l =
       holds = same-perm _ _ (r .after .same);
       counted = omega (arith, r .counted, fresh-empty s L (λ k. 1), total-one (entries s (run s (fresh s) l .cells)));
       size = r .after .size;
+      lookup-copies = λ t h k. copies-of s L _ _ (r .after) t (tag-passes s e t h k);
       lookup-held = λ t h k. held-if s L _ _ (r .after) t (tag-passes s e t h k);
       hold-nine = λ t n h k m. nine s L _ _ (r .after) t n (hold-passes s e t n h k m);
     }

@@ -6,7 +6,6 @@ use mathlib.Core.Option.{Option, none, some}
 use mathlib.Core.List.{List, [], _∷_}
 use Prim.Native.Nat.{ℕ, zero, suc, _+_, _*_, _/_, _≤_, _<_}
 use native.Mathlib.Omega.{arith}
-use native.Mathlib.Decide.{decLe}
 use lib.ListN.{length, set, take, length-set}
 use Rattle.lemmas.specs.Sums.{total}
 use Rattle.refusals.specs.Checks.{firstMet}
@@ -19,9 +18,8 @@ use Rattle.index.specs.declared.Settings.{Settings}
 use Rattle.index.proofs.Laws.{laws}
 use Rattle.calls.specs.Cells.{cell, lowestEmpty, inFirst}
 use Rattle.calls.specs.Search.{Ending, found, exhausted, searchFor, relocate}
-use Rattle.calls.specs.Calls.{Said, held, accepted, taggedChecks, lookup, lookupIn, placed, holdIn}
+use Rattle.calls.specs.Calls.{Said, accepted, copies, taggedChecks, lookup, lookupIn, placed, holdIn}
 use Rattle.calls.specs.Multiset.{count}
-use Rattle.calls.specs.Model.{toLookup}
 use Rattle.calls.specs.Demand.{entries}
 use Rattle.calls.specs.Interrupted.{Write, afterWrites, moves, writesBy, holdWrites, Interrupted}
 use Rattle.calls.specs.Laws.{Finds}
@@ -32,7 +30,7 @@ use Rattle.calls.proofs.Weights.{weightAt, weight-empty, weight-same, t
 use Rattle.calls.proofs.Moves.{chain-set, moved-cell, placed-total, relocated-total}
 use Rattle.calls.proofs.Model.{step-lookup}
 use Rattle.calls.proofs.Refusals.{tag-refusal}
-use Rattle.calls.proofs.Demand.{forget-held}
+use Rattle.calls.proofs.Demand.{forget-copies}
 
 -- ── the writes along a path lose no entry ──
 module _ (s : Settings) (L : Laws s) where
@@ -95,17 +93,12 @@ module _ (s : Settings) (L : Laws s) where
         )
 
     -- ── a lookup in between ──
-    found-still : (d tag : List ℕ) → length d ≡ length c → firstMet (taggedChecks s c tag) ≡ none → 1 ≤ count (classOf s tag) (entries s d) → lookup s d tag .answer ≡ given held
+    found-still : (d tag : List ℕ) → length d ≡ length c → firstMet (taggedChecks s c tag) ≡ none → lookup s d tag .answer ≡ given (copies (count (classOf s tag) (entries s d)))
     unfolding lookup
-    found-still d tag e m g =
-        rw (tag-refusal s d (e ∙ size) tag ∙ sym (tag-refusal s c size tag) ∙ m)
-        (forget-held (keeping d (lookupIn s d (fingerprint s tag) (home s tag)) .answer)
-        (step-lookup s L d (entries s d) (record { same = λ w. refl; size = e ∙ size }) (fingerprint s tag) (home s tag) (L .print-filled tag) (L .home-below tag) .reply
-        ∙ go (classAt s (fingerprint s tag) (home s tag)) (entries s d) (decLe 1 (count (classAt s (fingerprint s tag) (home s tag)) (entries s d))) (rw (L .class-tag tag) at g)))
-      where
-        go : (k : Class) (E : List Class) (a : Dec (1 ≤ count k E)) → 1 ≤ count k E → keeping E (toLookup k E a) .answer ≡ given held
-        go k E (yes a) h = refl
-        go k E (no a) h = absurd (a h)
+    found-still d tag e m =
+        rw (tag-refusal s d (e ∙ size) tag ∙ sym (tag-refusal s c size tag) ∙ m, L .class-tag tag)
+        (forget-copies (keeping d (lookupIn s d (fingerprint s tag) (home s tag)) .answer) _
+        (step-lookup s L d (entries s d) (record { same = λ w. refl; size = e ∙ size }) (fingerprint s tag) (home s tag) (L .print-filled tag) (L .home-below tag) .reply))
 
     -- ── the whole hold ──
     module _ (n : p ≢ 0) (d : ℕ) (c′ : List ℕ) where
@@ -145,7 +138,9 @@ module _ (s : Settings) (L : Laws s) where
             all = r .all;
             whole = r .whole;
             kept = kept;
-            found-still = λ k tag m g. found-still (afterWrites c (take k (holdWrites s c p b))) tag (writes-length c (take k (holdWrites s c p b))) m (omega (arith, kept k (classOf s tag)));
+            found-still = λ k tag m.
+                let t : List ℕ = afterWrites c (take k (holdWrites s c p b)) in
+                (count (classOf s tag) (entries s t), found-still t tag (writes-length c (take k (holdWrites s c p b))) m, kept k (classOf s tag));
             gained = λ x. count-total x (entries s c′) ∙ r .gained (one-at x) ∙ sym (count-total x (classAt s p b ∷ entries s c));
           }
 

@@ -1,5 +1,6 @@
 -- What is proved of the table's calls. Laws and Demand are what the crates above may use.
 pub mod Cells
+pub mod Copies
 pub mod CheckOrder
 pub mod Classes
 pub mod Nodes

@@ -1,26 +1,23 @@
 -- A table and a model that agree: after each call, and after each list of calls, they have answered alike and agree again.
 -- Assumes nothing.
 use mathlib.Core.Path.{_≡_, refl, sym, ap, ap₂, _∙_, subst}
-use mathlib.Core.Logic.{_⊎_, inl, inr, _≢_}
+use mathlib.Core.Logic.{_≢_}
 use mathlib.Core.Option.{Option, none, some}
 use mathlib.Core.List.{List, [], _∷_, map}
 use Prim.Native.Nat.{ℕ, _+_, _*_, _/_, _≤_, _<_}
 use native.Mathlib.Omega.{arith}
 use native.Mathlib.Decide.{decLe}
 use lib.ListN.{length, set, length-set}
-use Rattle.lemmas.specs.Count.{_among_}
 use Rattle.lemmas.specs.Sums.{total}
-use Rattle.lemmas.proofs.Count.{zero-cases}
-use Rattle.lemmas.proofs.Sums.{sum-zero}
 use Rattle.refusals.specs.Checks.{firstMet}
 use Rattle.refusals.specs.Outcomes.{Answer, refused, given, unless, outcome, keeping}
 use Rattle.index.specs.Hash.{fingerprint, home}
 use Rattle.index.specs.Candidates.{candidates, Class, classAt}
 use Rattle.index.specs.Laws.{Laws}
 use Rattle.index.specs.declared.Settings.{Settings}
-use Rattle.calls.specs.Cells.{cell, scan, lowestEmpty, inFirst}
+use Rattle.calls.specs.Cells.{lowestAt, lowestEmpty, inFirst}
 use Rattle.calls.specs.Search.{Ending, found, exhausted, searchFor, relocate}
-use Rattle.calls.specs.Calls.{Said, held, clear, absent, accepted, Act, toldHeld, foundIn, lookupIn, lookup, emptied, releaseIn, release, placed, holdIn, hold}
+use Rattle.calls.specs.Calls.{Said, absent, accepted, copies, Act, foundIn, copiesIn, lookupIn, lookup, emptied, releaseIn, release, placed, holdIn, hold}
 use Rattle.calls.specs.Multiset.{count, Same}
 use Rattle.calls.specs.Assignment.{Assignable}
 use Rattle.calls.specs.AssignmentDecided.{decAssignable}
@@ -28,9 +25,10 @@ use Rattle.calls.specs.Model.{Call, holdOf, releaseOf, lookupOf, toHold,
 use Rattle.calls.specs.Demand.{tableCall, Run, run, entries, forget, isAccepted, isReleased, tally}
 use Rattle.calls.specs.Laws.{Finds, Agree, Step}
 use Rattle.calls.proofs.Cells.{scan-finds, empty-finds, first-finds}
-use Rattle.calls.proofs.Classes.{one-at, one-refl, one-cases, count-total, erase-total, assignable-same, class-same, from-class, own-class}
+use Rattle.calls.proofs.Classes.{one-at, one-refl, count-total, erase-total, assignable-same, class-same}
+use Rattle.calls.proofs.Copies.{copies-entries, no-copies}
 use Rattle.calls.proofs.Queue.{Ends, search-ends}
-use Rattle.calls.proofs.Weights.{weightAt, weight-empty, weight-filled, total-entries, total-set, table-assigned}
+use Rattle.calls.proofs.Weights.{weightAt, weight-empty, weight-filled, total-set, table-assigned}
 use Rattle.calls.proofs.Moves.{length-relocate, placed-total, relocated-total}
 use Rattle.calls.proofs.Exhausted.{not-assignable}
 use Rattle.calls.proofs.Refusals.{hold-refusal, tag-refusal}
@@ -67,7 +65,7 @@ module _ (s : Settings) (L : Laws s) (c : List ℕ) (E : List Class) (A : Agree 
     -- ── lookup and release ──
     finds : Finds c p (candidates s p b) (foundIn s c p b)
     unfolding foundIn
-    finds = first-finds c p (scan c p) (scan-finds c p) (candidates s p b)
+    finds = first-finds c p (lowestAt c p) (scan-finds c p) (candidates s p b)
 
     -- a cell of the class is emptied
     there : (i : ℕ) → Finds c p (candidates s p b) (some i) → (w : Class → ℕ) → total w (entries s (set c i 0)) + w k ≡ total w (entries s c)
@@ -85,20 +83,12 @@ module _ (s : Settings) (L : Laws s) (c : List ℕ) (E : List Class) (A : Agree 
     some-there : (i : ℕ) → Finds c p (candidates s p b) (some i) → 1 ≤ count k E
     some-there i f = omega (arith, there i f (one-at k), one-refl k, A .same (one-at k), count-total k E)
 
+    -- the copies in the candidate set are the model's
+    copies-there : copiesIn s c p b ≡ count k E
+    copies-there = sym (copies-entries s L c p b l n) ∙ A .same (one-at k) ∙ sym (count-total k E)
+
     none-there : Finds c p (candidates s p b) none → count k E ≡ 0
-    none-there f = count-total k E ∙ sym (A .same (one-at k)) ∙ total-entries s (one-at k) c
-        ∙ sum-zero (4 * s .buckets) (λ i. weightAt s (one-at k) i (cell c i)) (λ i m. each i m (zero-cases (cell c i)))
-      where
-        each : (i : ℕ) → i < 4 * s .buckets → (cell c i ≡ 0) ⊎ (1 ≤ cell c i) → weightAt s (one-at k) i (cell c i) ≡ 0
-        each i m (inl e) = weight-empty s (one-at k) i (cell c i) e
-        each i m (inr g) = weight-filled s (one-at k) i (cell c i) (omega arith) ∙ other (one-cases k (classAt s (cell c i) (i / 4)))
-          where
-            other : (k ≡ classAt s (cell c i) (i / 4)) ⊎ (one-at k (classAt s (cell c i) (i / 4)) ≡ 0) → one-at k (classAt s (cell c i) (i / 4)) ≡ 0
-            other (inr z) = z
-            other (inl e) =
-                let a : p ≡ cell c i = sym (L .class-print p b) ∙ ap (λ (x : Class). x .print) e ∙ L .class-print (cell c i) (i / 4) in
-                let h : (i / 4) among k .set = subst (λ (x : Class). (i / 4) among x .set) (sym e) (own-class s L (cell c i) (i / 4) (omega arith)) in
-                absurd (f i (from-class s L p b (i / 4) l h) (sym a))
+    none-there f = sym copies-there ∙ no-copies s L c p b l f
 
     pub step-release : Step s c (keeping c (releaseIn s c p b)) (keeping E (toRelease k E (decLe 1 (count k E))))
     unfolding releaseIn
@@ -114,15 +104,9 @@ module _ (s : Settings) (L : Laws s) (c : List ℕ) (E : List Class) (A : Agree 
         }
         go (some i) f (no a) = absurd (a (some-there i f))
 
-    pub step-lookup : Step s c (keeping c (lookupIn s c p b)) (keeping E (toLookup k E (decLe 1 (count k E))))
+    pub step-lookup : Step s c (keeping c (lookupIn s c p b)) (keeping E (toLookup k E))
     unfolding lookupIn
-    step-lookup = go (foundIn s c p b) finds (decLe 1 (count k E))
-      where
-        go : (o : Option ℕ) → Finds c p (candidates s p b) o → (d : Dec (1 ≤ count k E)) → Step s c (keeping c (toldHeld c o)) (keeping E (toLookup k E d))
-        go none f (yes a) = absurd (omega (arith, none-there f))
-        go none f (no a) = stays (given clear) refl
-        go (some i) f (yes a) = stays (given held) refl
-        go (some i) f (no a) = absurd (a (some-there i f))
+    step-lookup = record { reply = ap (λ (n : ℕ). given (copies n)) (omega (arith, copies-there)); after = A; counted = omega arith }
 
   -- ── the calls, where no check is met ──
   abbrev pub tableAct : Call → Act

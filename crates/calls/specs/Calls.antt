@@ -4,22 +4,23 @@ use mathlib.Core.Bool.{not}
 use mathlib.Core.Path.{_≡_}
 use mathlib.Core.Option.{Option, none, some}
 use mathlib.Core.List.{List, [], _∷_, _++_}
-use Prim.Native.Nat.{ℕ, _+_, _*_}
+use Prim.Native.Nat.{ℕ, _+_, _*_, _≤_}
 use lib.Dec.{eqb, ltb}
 use lib.ListN.{length, set, replicate}
+use Rattle.lemmas.specs.Sums.{total}
 use Rattle.refusals.specs.Checks.{Check, check, firstMet, numberOf}
 use Rattle.refusals.specs.Outcomes.{Answer, refused, given, unless, Done, done, Outcome, keeping}
 use Rattle.index.specs.Settings.{settingsChecks, settingsRefusal}
 use Rattle.index.specs.Hash.{fingerprint, home, tagChecks}
-use Rattle.index.specs.Candidates.{candidates, bucketChecks}
+use Rattle.index.specs.Candidates.{candidates, candidateSet, bucketChecks}
 use Rattle.index.specs.declared.Settings.{Settings}
-use Rattle.calls.specs.Cells.{bucketOf, scan, lowestEmpty, inFirst}
+use Rattle.calls.specs.Cells.{bucketOf, copiesAt, lowestAt, lowestEmpty, inFirst}
 use Rattle.calls.specs.Search.{Ending, found, exhausted, searchFor, relocate}
 
--- what a call says
+-- what a call says; of a hold how many entries moved, of a lookup how many copies there are
 pub data Said : Type 0 where
-  cleared held clear released absent : Said
-  accepted : ℕ → Said
+  cleared released absent : Said
+  accepted copies : ℕ → Said
 
 -- what a call that no check refuses comes to, and how a call ends: with the cells that it leaves
 abbrev pub Act : Type 0
@@ -53,17 +54,29 @@ taggedChecks s c tag = tableChecks s c ++ tagChecks tag
 
 -- the lowest cell with the fingerprint in the first candidate that has one
 unfoldable pub foundIn : Settings → List ℕ → ℕ → ℕ → Option ℕ
-foundIn s c p b = inFirst (scan c p) (candidates s p b)
+foundIn s c p b = inFirst (lowestAt c p) (candidates s p b)
 
-abbrev pub toldHeld : List ℕ → Option ℕ → Act
-toldHeld c (some i) = given (done held c)
-toldHeld c none = given (done clear c)
+-- how many copies of the fingerprint the candidate set has: each of its buckets is counted once, even where candidates coincide
+unfoldable pub copiesIn : Settings → List ℕ → ℕ → ℕ → ℕ
+copiesIn s c p b = total (copiesAt c p) (candidateSet s p b)
 
 unfoldable pub lookupIn : Settings → List ℕ → ℕ → ℕ → Act
-lookupIn s c p b = toldHeld c (foundIn s c p b)
+lookupIn s c p b = given (done (copies (copiesIn s c p b)) c)
 
 unfoldable pub lookup : Settings → List ℕ → List ℕ → Result
 lookup s c tag = keeping c (unless (firstMet (taggedChecks s c tag)) (lookupIn s c (fingerprint s tag) (home s tag)))
+
+-- the tag is held: a lookup answers a number above 0
+abbrev pub copiesSaid : Said → ℕ
+copiesSaid (copies n) = n
+copiesSaid (accepted n) = 0
+copiesSaid cleared = 0
+copiesSaid released = 0
+copiesSaid absent = 0
+
+abbrev pub Held : Answer Said → Type 0
+Held (refused n) = ⊥
+Held (given x) = 1 ≤ copiesSaid x
 
 abbrev pub emptied : List ℕ → Option ℕ → Act
 emptied c (some i) = given (done released (set c i 0))

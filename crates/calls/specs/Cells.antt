@@ -6,6 +6,8 @@ use mathlib.Core.List.{List, [], _∷_}
 use Prim.Native.Nat.{ℕ, _+_, _*_}
 use lib.Dec.{eqb}
 use lib.ListN.{getD, take, drop}
+use Rattle.lemmas.specs.Count.{hit}
+use Rattle.lemmas.specs.Sums.{total}
 
 abbrev pub cell : List ℕ → ℕ → ℕ
 cell c i = getD c i 0
@@ -23,9 +25,24 @@ abbrev pub firstHolding : List ℕ → ℕ → List ℕ → Option ℕ
 firstHolding c v [] = none
 firstHolding c v (i ∷ is) = let rest = firstHolding c v is in cond (eqb (cell c i) v) (some i) rest
 
--- the scan: the lowest cell of bucket b that holds the fingerprint
-unfoldable pub scan : List ℕ → ℕ → ℕ → Option ℕ
-scan c p b = firstHolding c p (cellsOf b)
+-- how many of the given cells hold v
+abbrev pub howMany : List ℕ → ℕ → List ℕ → ℕ
+howMany c v is = total (λ i. hit (cell c i) v) is
+
+-- what the scan of a bucket reports: how many of its cells hold the fingerprint (document 02: the print), and the lowest of them
+pub record Scan : Type 0 where
+  pub copies : ℕ
+  pub lowest : Option ℕ
+
+unfoldable pub scan : List ℕ → ℕ → ℕ → Scan
+scan c p b = record { copies = howMany c p (cellsOf b); lowest = firstHolding c p (cellsOf b) }
+
+-- the two apart, of bucket b
+abbrev pub copiesAt : List ℕ → ℕ → ℕ → ℕ
+copiesAt c p b = scan c p b .copies
+
+abbrev pub lowestAt : List ℕ → ℕ → ℕ → Option ℕ
+lowestAt c p b = scan c p b .lowest
 
 -- the lowest empty cell of bucket b
 unfoldable pub lowestEmpty : List ℕ → ℕ → Option ℕ

@@ -11,7 +11,7 @@ use Rattle.refusals.specs.Outcomes.{Answer, refused, given, outcome}
 use Rattle.index.specs.Candidates.{Class, classAt, classOf}
 use Rattle.index.specs.declared.Settings.{Settings}
 use Rattle.calls.specs.Cells.{cell}
-use Rattle.calls.specs.Calls.{Said, cleared, held, clear, released, absent, accepted, Result, fresh, clearTable, lookup, release, hold}
+use Rattle.calls.specs.Calls.{Said, cleared, released, absent, accepted, copies, Result, Held, fresh, clearTable, lookup, release, hold}
 use Rattle.calls.specs.Multiset.{count}
 use Rattle.calls.specs.Assignment.{Assignable}
 use Rattle.calls.specs.Model.{Call, holdOf, releaseOf, lookupOf, modelRun}
@@ -46,9 +46,8 @@ entries s c = filledBelow s c (4 * s .buckets)
 -- an accepted hold counts as accepted, whatever its moves
 abbrev pub forgetMoves : Said → Said
 forgetMoves (accepted n) = accepted 0
+forgetMoves (copies n) = copies n
 forgetMoves cleared = cleared
-forgetMoves held = held
-forgetMoves clear = clear
 forgetMoves released = released
 forgetMoves absent = absent
 
@@ -59,17 +58,15 @@ forget (given x) = given (forgetMoves x)
 -- 1 for an accepted hold, and for a release that said released
 abbrev pub acceptedOne : Said → ℕ
 acceptedOne (accepted n) = 1
+acceptedOne (copies n) = 0
 acceptedOne cleared = 0
-acceptedOne held = 0
-acceptedOne clear = 0
 acceptedOne released = 0
 acceptedOne absent = 0
 
 abbrev pub releasedOne : Said → ℕ
 releasedOne (accepted n) = 0
+releasedOne (copies n) = 0
 releasedOne cleared = 0
-releasedOne held = 0
-releasedOne clear = 0
 releasedOne released = 1
 releasedOne absent = 0
 
@@ -98,9 +95,12 @@ pub record Demand3 (s : Settings) (l : List Call) : Type 0 where
   pub counted : length (entries s (run s (fresh s) l .cells)) + tally isReleased (run s (fresh s) l .replies) ≡ tally isAccepted (run s (fresh s) l .replies)
   -- the table keeps its length
   pub size : length (run s (fresh s) l .cells) ≡ 4 * s .buckets
-  -- a lookup of a tag of 1 to 64 bytes says held exactly if the model then has the class
+  -- a lookup of a tag of 1 to 64 bytes answers how many copies of its class the model then has
+  pub lookup-copies : (t : List ℕ) → 1 ≤ length t → length t ≤ 64
+      → tableCall s (run s (fresh s) l .cells) (lookupOf t) .answer ≡ given (copies (count (classOf s t) (modelRun s [] l .entries)))
+  -- and says held exactly if the model then has the class
   pub lookup-held : (t : List ℕ) → 1 ≤ length t → length t ≤ 64
-      → (tableCall s (run s (fresh s) l .cells) (lookupOf t) .answer ≡ given held) ↔ (1 ≤ count (classOf s t) (modelRun s [] l .entries))
+      → Held (tableCall s (run s (fresh s) l .cells) (lookupOf t) .answer) ↔ (1 ≤ count (classOf s t) (modelRun s [] l .entries))
   -- a hold of a tag of 1 to 64 bytes, with scratch of at least 2 × M numbers, is refused with 9 exactly if the model's entries and the new
   -- one cannot be assigned
   pub hold-nine : (t : List ℕ) (n : ℕ) → 1 ≤ length t → length t ≤ 64 → 2 * s .buckets ≤ n

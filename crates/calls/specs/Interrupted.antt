@@ -12,7 +12,7 @@ use Rattle.index.specs.Candidates.{candidates, Class, classAt, classOf}
 use Rattle.index.specs.declared.Settings.{Settings}
 use Rattle.calls.specs.Cells.{cell, lowestEmpty, inFirst}
 use Rattle.calls.specs.Search.{Ending, found, exhausted, searchFor}
-use Rattle.calls.specs.Calls.{held, accepted, taggedChecks, lookup}
+use Rattle.calls.specs.Calls.{accepted, copies, taggedChecks, lookup}
 use Rattle.calls.specs.Multiset.{count}
 use Rattle.calls.specs.Demand.{entries}
 
@@ -50,8 +50,8 @@ pub record Interrupted (s : Settings) (c : List ℕ) (p b d : ℕ) (c′ : List 
   pub whole : afterWrites c (holdWrites s c p b) ≡ c′
   -- after any number of them every class has at least as many copies as before
   pub kept : (k : ℕ) (x : Class) → count x (entries s c) ≤ count x (entries s (afterWrites c (take k (holdWrites s c p b))))
-  -- so that whatever was held is found by a lookup made in between
-  pub found-still : (k : ℕ) (tag : List ℕ) → firstMet (taggedChecks s c tag) ≡ none → 1 ≤ count (classOf s tag) (entries s c)
-      → lookup s (afterWrites c (take k (holdWrites s c p b))) tag .answer ≡ given held
+  -- so that a lookup made in between finds at least as many copies as before
+  pub found-still : (k : ℕ) (tag : List ℕ) → firstMet (taggedChecks s c tag) ≡ none
+      → (n : ℕ) × (lookup s (afterWrites c (take k (holdWrites s c p b))) tag .answer ≡ given (copies n)) × (count (classOf s tag) (entries s c) ≤ n)
   -- and after the last exactly one copy more, of the new class
   pub gained : (x : Class) → count x (entries s c′) ≡ count x (classAt s p b ∷ entries s c)

@@ -11,15 +11,15 @@ use native.Mathlib.Decide.{decLe}
 use lib.Dec.{eqb}
 use lib.ListN.{length, take, drop}
 use Rattle.lemmas.specs.Count.{occ, _among_}
-use Rattle.lemmas.specs.Sums.{sumTo, total}
+use Rattle.lemmas.specs.Sums.{sumTo, total, totalOnce}
 use Rattle.refusals.specs.Checks.{firstMet, numberOf, Numbered}
 use Rattle.refusals.specs.Outcomes.{refused, given, Outcome, outcome, keeping}
 use Rattle.index.specs.Settings.{settingsRefusal}
-use Rattle.index.specs.Candidates.{Class, classAt}
+use Rattle.index.specs.Candidates.{candidates, Class, classAt}
 use Rattle.index.specs.declared.Settings.{Settings}
-use Rattle.calls.specs.Cells.{cell, scan, lowestEmpty, inFirst, filledCount}
+use Rattle.calls.specs.Cells.{cell, copiesAt, lowestAt, lowestEmpty, inFirst, filledCount}
 use Rattle.calls.specs.Search.{Node, marked, found, searchFor}
-use Rattle.calls.specs.Calls.{Said, Result, tableChecks, scratchChecks, Sound, fresh, lookupIn, releaseIn, holdIn}
+use Rattle.calls.specs.Calls.{Said, Result, tableChecks, scratchChecks, Sound, fresh, copiesIn, lookupIn, releaseIn, holdIn}
 use Rattle.calls.specs.WrittenForms.{anyFrom, written}
 use Rattle.calls.specs.Multiset.{count, Same}
 use Rattle.calls.specs.AssignmentDecided.{decAssignable}
@@ -33,7 +33,9 @@ Finds c v bs none = (i : ℕ) → (i / 4) among bs → cell c i ≢ v
 Finds c v bs (some i) = (cell c i ≡ v) × ((i / 4) among bs)
 
 pub record ScanLaws : Type 0 where
-  pub scans : (c : List ℕ) (p : ℕ) (bs : List ℕ) → Finds c p bs (inFirst (scan c p) bs)
+  -- a bucket has four cells
+  pub most : (c : List ℕ) (p b : ℕ) → copiesAt c p b ≤ 4
+  pub scans : (c : List ℕ) (p : ℕ) (bs : List ℕ) → Finds c p bs (inFirst (lowestAt c p) bs)
   pub empties : (c bs : List ℕ) → Finds c 0 bs (inFirst (lowestEmpty c) bs)
 
 -- ── how many cells are filled ──
@@ -112,11 +114,13 @@ pub record CallLaws (s : Settings) : Type 0 where
   pub found-within : (c : List ℕ) (p b : ℕ) → b < s .buckets → (i : ℕ) (n : Node) (q : List Node) → searchFor s c p b ≡ found i n q → i < 4 * s .buckets
   -- the fresh table agrees with the empty model
   pub fresh-agrees : Agree s (fresh s) []
+  -- the copies in the candidate set, counted over the listed candidates
+  pub listed-once : (c : List ℕ) (p b : ℕ) → b < s .buckets → totalOnce (s .buckets) (copiesAt c p) (candidates s p b) ≡ copiesIn s c p b
   -- any fingerprint placed from any bucket, looked for there, and taken out
   pub places : (c : List ℕ) (E : List Class) → Agree s c E → (p b : ℕ) → p ≢ 0 → b < s .buckets
       → Step s c (keeping c (holdIn s c p b)) (keeping E (toHold (classAt s p b) E (decAssignable (classAt s p b ∷ E))))
   pub looks-up : (c : List ℕ) (E : List Class) → Agree s c E → (p b : ℕ) → p ≢ 0 → b < s .buckets
-      → Step s c (keeping c (lookupIn s c p b)) (keeping E (toLookup (classAt s p b) E (decLe 1 (count (classAt s p b) E))))
+      → Step s c (keeping c (lookupIn s c p b)) (keeping E (toLookup (classAt s p b) E))
   pub takes-out : (c : List ℕ) (E : List Class) → Agree s c E → (p b : ℕ) → p ≢ 0 → b < s .buckets
       → Step s c (keeping c (releaseIn s c p b)) (keeping E (toRelease (classAt s p b) E (decLe 1 (count (classAt s p b) E))))
   -- a whole call, refused or not

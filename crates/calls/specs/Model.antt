@@ -10,7 +10,7 @@ use Rattle.index.specs.Settings.{settingsChecks}
 use Rattle.index.specs.Hash.{tagChecks}
 use Rattle.index.specs.Candidates.{Class, classOf}
 use Rattle.index.specs.declared.Settings.{Settings}
-use Rattle.calls.specs.Calls.{Said, held, clear, released, absent, accepted, scratchChecks}
+use Rattle.calls.specs.Calls.{Said, released, absent, accepted, copies, scratchChecks}
 use Rattle.calls.specs.Multiset.{count, erase}
 use Rattle.calls.specs.Assignment.{Assignable}
 use Rattle.calls.specs.AssignmentDecided.{decAssignable}
@@ -35,14 +35,14 @@ abbrev pub toRelease : (k : Class) (E : List Class) → Dec (1 ≤ count k E) �
 toRelease k E (yes a) = given (done released (erase k E))
 toRelease k E (no n) = given (done absent E)
 
-abbrev pub toLookup : (k : Class) (E : List Class) → Dec (1 ≤ count k E) → ModelAct
-toLookup k E (yes a) = given (done held E)
-toLookup k E (no n) = given (done clear E)
+-- how many copies there are
+abbrev pub toLookup : Class → List Class → ModelAct
+toLookup k E = given (done (copies (count k E)) E)
 
 abbrev pub modelAct : Settings → List Class → Call → ModelAct
 modelAct s E (holdOf t n) = toHold (classOf s t) E (decAssignable (classOf s t ∷ E))
 modelAct s E (releaseOf t) = toRelease (classOf s t) E (decLe 1 (count (classOf s t) E))
-modelAct s E (lookupOf t) = toLookup (classOf s t) E (decLe 1 (count (classOf s t) E))
+modelAct s E (lookupOf t) = toLookup (classOf s t) E
 
 -- the other conditions that concern a call and do not speak of the table
 abbrev pub modelChecks : Settings → Call → List Check

@@ -5,6 +5,7 @@ use super::tell::Log;
 use super::tell::accepted;
 use super::tell::bad;
 use super::tell::failed;
+use super::tell::found;
 use super::tell::print;
 use super::tell::print_cells;
 use super::tell::print_entries;
@@ -131,8 +132,7 @@ pub(crate) fn release(log: &mut Log, state: State, text: &[u8], cells: &mut [u16
 fn lookup_tag(log: &mut Log, s: Settings, cells: &[u16], tag: &[u8]) {
     match table::lookup(s, cells, tag) {
         LookupAnswer::Refused(k) => refused(log, k),
-        LookupAnswer::Held => print(log, b"held\n"),
-        LookupAnswer::Clear => print(log, b"clear\n"),
+        LookupAnswer::Copies(n) => found(log, n),
     }
 }
 

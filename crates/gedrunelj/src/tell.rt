@@ -233,6 +233,15 @@ pub(crate) fn accepted(log: &mut Log, moves: u32) {
     }
 }
 
+// One release takes one order off, so that their number is told.
+pub(crate) fn found(log: &mut Log, copies: u32) {
+    match copies {
+        0 => print(log, b"clear\n"),
+        1 => print(log, b"held, 1 order\n"),
+        _ => print_with(log, b"held, ", copies as u64, b" orders\n"),
+    }
+}
+
 // ── what is told at the end, on standard error ──
 
 fn say(text: &[u8]) {

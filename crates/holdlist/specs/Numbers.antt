@@ -7,7 +7,7 @@ use lib.IntN.{ℤ, pos, negℤ}
 use lib.ListN.{getD}
 use Rattle.refusals.specs.Outcomes.{Answer, refused, given}
 use Rattle.index.specs.declared.Settings.{Settings}
-use Rattle.calls.specs.Calls.{Said, cleared, held, clear, released, absent, accepted}
+use Rattle.calls.specs.Calls.{Said, cleared, released, absent, accepted, copies}
 
 -- the settings that a list of numbers is, as C's struct has them, and the list that settings are
 abbrev pub settingsAt : List ℕ → Settings
@@ -31,8 +31,7 @@ itself n = n
 -- what a call of the table says
 abbrev pub saidNumber : Said → ℕ
 saidNumber cleared = 0
-saidNumber held = 1
-saidNumber clear = 0
 saidNumber released = 1
 saidNumber absent = 0
 saidNumber (accepted n) = n
+saidNumber (copies n) = n

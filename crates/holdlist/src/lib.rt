@@ -161,15 +161,14 @@ pub extern "C" fn holdlist_clear(settings: &Lent, table: &mut [u16]) -> i64
     }
 }
 
-// 1 where the tag is held, 0 where it is clear.
+// How many copies of the tag's fingerprint its candidates hold: above 0 where the tag is held.
 #[no_mangle]
 pub extern "C" fn holdlist_lookup(settings: &Lent, table: &[u16], tag: &[u8]) -> i64
     ensures { λ r. ⌜ r ≡ signed saidNumber (lookupOf (settingsAt (now (settings .entry))) (now (table .entry)) (now (tag .entry)) .answer) ⌝ }
 {
     let s = lent_settings(settings);
     match table::lookup(s, table, tag) {
-        LookupAnswer::Held => 1,
-        LookupAnswer::Clear => 0,
+        LookupAnswer::Copies(copies) => given(copies),
         LookupAnswer::Refused(n) => refused(n),
     }
 }

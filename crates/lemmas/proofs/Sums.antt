@@ -1,14 +1,18 @@
--- Sums: compared, changed at one place, counted by fours, and what follows for lists of small numbers.
+-- Sums: compared, changed at one place, counted by fours, over each number of a list once, and what follows for lists of small numbers.
 -- Assumes nothing.
 use mathlib.Core.Path.{_≡_, refl, ap}
-use mathlib.Core.Logic.{inl, inr, _≢_}
-use mathlib.Core.List.{List, [], _∷_}
+use mathlib.Core.Logic.{_⊎_, inl, inr, _≢_}
+use mathlib.Core.Bool.{cond}
+use mathlib.Core.List.{List, [], _∷_, _++_}
 use Prim.Native.Nat.{ℕ, zero, suc, _+_, _*_, _/_, _≤_, _<_}
 use native.Mathlib.Omega.{arith}
+use borrow.Author.Tests.{eq-eqb, ne-eqb}
+use lib.Dec.{eqb}
 use lib.ListN.{length}
 use Rattle.lemmas.specs.Count.{hit, occ, _among_}
-use Rattle.lemmas.specs.Sums.{sumTo, total}
-use Rattle.lemmas.proofs.Count.{hit-cases, hit-refl, hit-of, hit-ne, hit-sym}
+use Rattle.lemmas.specs.Members.{AllAbove, Ascending, Alike}
+use Rattle.lemmas.specs.Sums.{sumTo, total, totalOnce}
+use Rattle.lemmas.proofs.Count.{hit-cases, hit-refl, hit-of, hit-ne, hit-sym, occ-append, zero-cases}
 
 pub sum-le : (n : ℕ) (f g : ℕ → ℕ) → ((i : ℕ) → i < n → f i ≤ g i) → sumTo n f ≤ sumTo n g
 sum-le zero f g h = omega arith
@@ -37,6 +41,16 @@ sum-change (suc n) i f g h l = elim (hit-cases n i) [
   | inl e ↦ omega (arith, sum-eq n f g (λ j k. h j (omega arith)), ap f e, ap g e)
   | inr z ↦ let ne : n ≢ i = hit-ne n i z in omega (arith, sum-change n i f g h (omega arith), h n ne)
 ]
+
+-- four at a time
+pub sum-by-fours : (n : ℕ) (g : ℕ → ℕ) → sumTo (4 * n) g ≡ sumTo n (λ x. g (4 * x) + g (4 * x + 1) + g (4 * x + 2) + g (4 * x + 3))
+sum-by-fours zero g = refl
+sum-by-fours (suc n) g =
+    let e : 4 * suc n ≡ suc (suc (suc (suc (4 * n)))) = omega arith in
+    rw e (omega (arith, sum-by-fours n g, at (suc (4 * n)) (4 * n + 1) (omega arith), at (suc (suc (4 * n))) (4 * n + 2) (omega arith), at (suc (suc (suc (4 * n)))) (4 * n + 3) (omega arith)))
+  where
+    at : (i j : ℕ) → i ≡ j → g i ≡ g j
+    at i j e = ap g e
 
 -- each number counted four times
 pub sum-fours : (n : ℕ) (f : ℕ → ℕ) → sumTo (4 * n) (λ i. f (i / 4)) ≡ 4 * sumTo n f
@@ -96,3 +110,66 @@ sum-occ n (x ∷ W) h = omega (
 -- a list of numbers below n without repeats
 pub few : (n : ℕ) (W : List ℕ) → ((x : ℕ) → x among W → x < n) → ((x : ℕ) → occ x W ≤ 1) → length W ≤ n
 few n W h o = omega (arith, sum-occ n W h, sum-le n (λ i. occ i W) (λ i. 1) (λ i k. o i), sum-one n)
+
+-- ── each number of a list once ──
+-- a number's term, by how often it stands there
+pub once-in : (o v : ℕ) → 1 ≤ o → cond (eqb o 0) 0 v ≡ v
+once-in o v h = rw (ne-eqb o 0 (λ e. omega arith)) refl
+
+pub once-out : (o v : ℕ) → o ≡ 0 → cond (eqb o 0) 0 v ≡ 0
+once-out o v e = rw (eq-eqb o 0 e) refl
+
+above-none : (x : ℕ) (l : List ℕ) → AllAbove x l → occ x l ≡ 0
+above-none x [] a = refl
+above-none x (y ∷ l) a = elim (hit-cases x y) [ inl e ↦ absurd (omega (arith, a .0)) | inr z ↦ omega (arith, above-none x l (a .1)) ]
+
+module _ (n : ℕ) (w : ℕ → ℕ) where
+  -- m has x, and every other number as often as l
+  once-more : (l m : List ℕ) (x : ℕ) → x < n → x among m → ((j : ℕ) → j ≢ x → occ j m ≡ occ j l)
+      → totalOnce n w m + cond (eqb (occ x l) 0) 0 (w x) ≡ totalOnce n w l + w x
+  unfolding totalOnce
+  once-more l m x h g e = omega (
+    arith,
+    sum-change n x (λ y. cond (eqb (occ y m) 0) 0 (w y)) (λ y. cond (eqb (occ y l) 0) 0 (w y)) (λ j k. ap (λ (o : ℕ). cond (eqb o 0) 0 (w j)) (e j k)) h,
+    once-in (occ x m) (w x) g,
+  )
+
+  module _ (l : List ℕ) (x : ℕ) (h : x < n) where
+    behind : (j : ℕ) → j ≢ x → occ j (l ++ (x ∷ [])) ≡ occ j l
+    behind j k = elim (hit-cases j x) [ inl e ↦ absurd (k e) | inr z ↦ omega (arith, occ-append j l (x ∷ [])) ]
+
+    at-end : x among l ++ (x ∷ [])
+    at-end = omega (arith, occ-append x l (x ∷ []), hit-refl x)
+
+    -- a number put behind the list: one that was not there, and one that was
+    pub once-new : occ x l ≡ 0 → totalOnce n w (l ++ (x ∷ [])) ≡ totalOnce n w l + w x
+    once-new e = omega (arith, once-more l (l ++ (x ∷ [])) x h at-end behind, once-out (occ x l) (w x) e)
+
+    pub once-again : x among l → totalOnce n w (l ++ (x ∷ [])) ≡ totalOnce n w l
+    once-again g = omega (arith, once-more l (l ++ (x ∷ [])) x h at-end behind, once-in (occ x l) (w x) g)
+
+  pub once-nil : totalOnce n w [] ≡ 0
+  unfolding totalOnce
+  once-nil = sum-zero n (λ y. 0) (λ y k. refl)
+
+  -- lists with the same members have the same sum
+  pub once-alike : (l m : List ℕ) → Alike l m → totalOnce n w l ≡ totalOnce n w m
+  unfolding totalOnce
+  once-alike l m a = sum-eq n (λ y. cond (eqb (occ y l) 0) 0 (w y)) (λ y. cond (eqb (occ y m) 0) 0 (w y)) (λ y k. go y (zero-cases (occ y l)) (zero-cases (occ y m)))
+    where
+      go : (y : ℕ) → (occ y l ≡ 0) ⊎ (1 ≤ occ y l) → (occ y m ≡ 0) ⊎ (1 ≤ occ y m) → cond (eqb (occ y l) 0) 0 (w y) ≡ cond (eqb (occ y m) 0) 0 (w y)
+      go y (inl e) (inl f) = omega (arith, once-out (occ y l) (w y) e, once-out (occ y m) (w y) f)
+      go y (inl e) (inr g) = absurd (omega (arith, a y .1 g))
+      go y (inr g) (inl f) = absurd (omega (arith, a y .0 g))
+      go y (inr g) (inr k) = omega (arith, once-in (occ y l) (w y) g, once-in (occ y m) (w y) k)
+
+  -- and a list without repeats has its plain sum
+  pub once-total : (l : List ℕ) → Ascending l → ((x : ℕ) → x among l → x < n) → totalOnce n w l ≡ total w l
+  once-total [] a h = once-nil
+  once-total (x ∷ l) a h = omega (
+    arith,
+    once-more l (x ∷ l) x (h x (omega (arith, hit-refl x))) (omega (arith, hit-refl x))
+        (λ j k. elim (hit-cases j x) [ inl e ↦ absurd (k e) | inr z ↦ omega arith ]),
+    once-out (occ x l) (w x) (above-none x l (a .0)),
+    once-total l (a .1) (λ y k. h y (omega arith)),
+  )

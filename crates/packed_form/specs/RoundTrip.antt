@@ -1,15 +1,16 @@
 -- What packing keeps: round trip both ways, and every answer.
 -- Assumes nothing.
 use mathlib.Core.Path.{_≡_}
+use mathlib.Core.Logic.{_≢_}
 use mathlib.Core.Bool.{false}
 use mathlib.Core.List.{List, _++_, List·Permᴰ}
-use Prim.Native.Nat.{ℕ, _*_, _^_, _≤_}
+use Prim.Native.Nat.{ℕ, _*_, _^_, _≤_, _<_}
 use lib.ListN.{length, take, drop}
 use Rattle.lemmas.specs.Bytes.{AllBytes}
 use Rattle.refusals.specs.Outcomes.{given, outcome}
 use Rattle.index.specs.declared.Settings.{Settings}
 use Rattle.calls.specs.Cells.{filledCount}
-use Rattle.calls.specs.Calls.{Sound, lookup}
+use Rattle.calls.specs.Calls.{Sound, copiesIn, lookup}
 use Rattle.calls.specs.Demand.{entries}
 use Rattle.calls.specs.WrittenForms.{anyFrom}
 use Rattle.packed_form.specs.Writer.{sortBuckets, packedOf, writePacked}
@@ -33,7 +34,9 @@ pub record ReadIsPacked : Type 0 where
   pub makes : (s : Settings) (bytes t c out : List ℕ) (n : ℕ) → AllBytes bytes → readPacked s bytes t ≡ outcome (given n) c → length bytes ≤ length out
       → writePacked s c out ≡ outcome (given (length bytes)) (bytes ++ drop (length bytes) out)
 
--- packing changes no answer: a lookup of any tag says the same, and the entries are the same classes
+-- packing changes no answer: a lookup of any tag answers the same number, so does one of any fingerprint from any bucket, and the
+-- entries are the same classes
 pub record PackingKeeps : Type 0 where
   pub lookups : (s : Settings) (c tag : List ℕ) → Packable s c → lookup s (sortBuckets c) tag .answer ≡ lookup s c tag .answer
+  pub counts : (s : Settings) (c : List ℕ) (p b : ℕ) → Packable s c → p ≢ 0 → b < s .buckets → copiesIn s (sortBuckets c) p b ≡ copiesIn s c p b
   pub classes : (s : Settings) (c : List ℕ) → Packable s c → List·Permᴰ (entries s (sortBuckets c)) (entries s c)

@@ -10,6 +10,7 @@ use native.Mathlib.Omega.{arith}
 use lib.Dec.{eqb}
 use lib.ListN.{length, take, drop, set, replicate, length-replicate, drop-of-length-le}
 use Rattle.lemmas.specs.Count.{_among_}
+use Rattle.lemmas.specs.Sums.{totalOnce}
 use Rattle.refusals.specs.Checks.{firstMet, numberOf}
 use Rattle.refusals.specs.Outcomes.{refused, given, unless, done, outcome, keeping}
 use Rattle.refusals.proofs.Cursor.{start, all-passed, number-met, number-passed, call-refused, call-goes-on, number-refuses}
@@ -21,11 +22,11 @@ use Rattle.index.specs.declared.Settings.{Settings}
 use Rattle.index.specs.declared.CandidateList.{CandidateList}
 use Rattle.index.proofs.Laws.{laws}
 use Rattle.index.proofs.Checks.{check-laws}
-use Rattle.calls.specs.Cells.{scan, inFirst}
+use Rattle.calls.specs.Cells.{copiesAt, lowestAt, inFirst}
 use Rattle.calls.specs.Calls.{Act, cleared, tableChecks, Sound, fresh, clearTable}
-use Rattle.calls.specs.Calls.{taggedChecks, foundIn, toldHeld, lookup, released, emptied, release, lookupIn, releaseIn}
+use Rattle.calls.specs.Calls.{taggedChecks, foundIn, copies, copiesIn, lookup, released, emptied, release, lookupIn, releaseIn}
 use Rattle.calls.specs.Laws.{Finds}
-use Rattle.calls.proofs.Laws.{scan-laws, table-check-laws}
+use Rattle.calls.proofs.Laws.{scan-laws, table-check-laws, call-laws}
 
 -- ── the check of settings and table ──
 module _ (s : Settings) (c : List ℕ) (n : ℕ) (e : n ≡ numberOf (settingsRefusal s)) where
@@ -125,17 +126,13 @@ module _ {s : Settings} {c t : List ℕ} {p b : ℕ} {l : CandidateList} (K : Kn
   placing = record { pass = K .pass; home-in = home-inside s c t (K .pass) p b (K .entry-is); lists = K .lists }
 
   -- what find answers
-  module _ {o : Option ℕ} (e : o ≡ inFirst (scan c p) (take (l .count) (l .buckets))) where
+  module _ {o : Option ℕ} (e : o ≡ inFirst (lowestAt c p) (take (l .count) (l .buckets))) where
     pub known-found : (i : ℕ) → o ≡ some i → i < length c
     known-found i k = found-inside placing p _ (scan-laws .scans c p (take (l .count) (l .buckets))) i (sym e ∙ k)
 
     found-is : o ≡ foundIn s c p b
     unfolding foundIn
-    found-is = e ∙ ap (inFirst (scan c p)) (list-is placing)
-
-    pub lookup-told : keeping c (toldHeld c o) ≡ lookup s c t
-    unfolding lookup lookupIn
-    lookup-told = ap (λ (x : Option ℕ). keeping c (toldHeld c x)) found-is ∙ tag-passes s c t (lookupIn s c) (K .pass) p b (K .entry-is)
+    found-is = e ∙ ap (inFirst (lowestAt c p)) (list-is placing)
 
     pub release-told : keeping c (emptied c o) ≡ release s c t
     unfolding release releaseIn
@@ -143,3 +140,12 @@ module _ {s : Settings} {c t : List ℕ} {p b : ℕ} {l : CandidateList} (K : Kn
 
     pub emptied-told : {i : ℕ} {c′ : List ℕ} → o ≡ some i → c′ ≡ set c i 0 → outcome (given released) c′ ≡ release s c t
     emptied-told k f = ap (outcome (given released)) f ∙ ap (λ (x : Option ℕ). keeping c (emptied c x)) (sym k) ∙ release-told
+
+  -- what count answers
+  pub lookup-told : {n : ℕ} → n ≡ totalOnce (length c / 4) (copiesAt c p) (take (l .count) (l .buckets)) → outcome (given (copies n)) c ≡ lookup s c t
+  unfolding lookup lookupIn
+  lookup-told e =
+      let m : length c / 4 ≡ s .buckets = omega (arith, K .pass .size) in
+      let i : totalOnce (length c / 4) (copiesAt c p) (take (l .count) (l .buckets)) ≡ copiesIn s c p b =
+      ap₂ (λ (x : ℕ) (y : List ℕ). totalOnce x (copiesAt c p) y) m (list-is placing) ∙ call-laws s (K .pass .settings) .listed-once c p b (placing .home-in) in
+      ap (λ (x : ℕ). outcome (given (copies x)) c) (e ∙ i) ∙ tag-passes s c t (lookupIn s c) (K .pass) p b (K .entry-is)

@@ -8,7 +8,7 @@ use lib.ListN.{length}
 use Rattle.refusals.specs.Checks.{firstMet}
 use Rattle.refusals.specs.Outcomes.{Answer, refused, given, outcome}
 use Rattle.index.specs.declared.Settings.{Settings}
-use Rattle.calls.specs.Calls.{Said, cleared, held, clear, released, absent, accepted, hold, holdChecks}
+use Rattle.calls.specs.Calls.{Said, cleared, released, absent, accepted, copies, hold, holdChecks}
 use Rattle.table.specs.declared.ClearAnswer.{ClearAnswer}
 use Rattle.table.specs.declared.LookupAnswer.{LookupAnswer}
 use Rattle.table.specs.declared.ReleaseAnswer.{ReleaseAnswer}
@@ -19,8 +19,7 @@ clearIs ClearAnswer.Cleared = given cleared
 clearIs (ClearAnswer.Refused n) = refused n
 
 abbrev pub lookupIs : LookupAnswer → Answer Said
-lookupIs LookupAnswer.Held = given held
-lookupIs LookupAnswer.Clear = given clear
+lookupIs (LookupAnswer.Copies n) = given (copies n)
 lookupIs (LookupAnswer.Refused n) = refused n
 
 abbrev pub releaseIs : ReleaseAnswer → Answer Said

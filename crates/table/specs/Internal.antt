@@ -11,9 +11,10 @@ use mathlib.Core.List.{List, [], _∷_, _++_}
 use Prim.Native.Nat.{ℕ, zero, suc, _+_, _*_, _-_, _/_, _%_, _≤_, _<_}
 use lib.Dec.{ltb}
 use lib.ListN.{length, getD}
-use Rattle.calls.specs.Cells.{lowestEmpty}
+use Rattle.calls.specs.Cells.{Scan, lowestEmpty}
 use Rattle.calls.specs.Search.{Node, node, marked, Ending, found, exhausted}
 use Rattle.table.specs.declared.Place.{Place}
+use Rattle.table.specs.declared.Scanned.{Scanned}
 use Rattle.table.specs.declared.Visited.{Visited}
 use Rattle.table.specs.declared.SearchAnswer.{SearchAnswer}
 
@@ -21,6 +22,10 @@ use Rattle.table.specs.declared.SearchAnswer.{SearchAnswer}
 abbrev pub placeIs : Place → Option ℕ
 placeIs (Place.At i) = some i
 placeIs Place.Nowhere = none
+
+-- what the scan of a bucket reports
+abbrev pub scannedIs : Scanned → Scan
+scannedIs r = record { copies = r .copies; lowest = placeIs (r .lowest) }
 
 -- ── scratch ──
 -- the bucket that entry i names, the entry that it was reached from, and its cell's place there

@@ -1,15 +1,19 @@
 // The table of a cuckoo filter: clear, lookup, release and hold over cells that the caller lends. Bucket
 // b is cells 4b to 4b + 3, and 0 is an empty cell.
 ghost use mathlib.Core.Path.{_≡_};
-ghost use Prim.Native.Nat.{ℕ, _+_, _*_, _%_, _<_, _≤_};
+ghost use mathlib.Core.Bool.{cond};
+ghost use mathlib.Core.Option.{none, some};
+ghost use Prim.Native.Nat.{ℕ, _+_, _*_, _/_, _%_, _<_, _≤_};
+ghost use lib.Dec.{eqb};
 ghost use lib.ListN.{length, take, set};
-ghost use Rattle.lemmas.specs.Count.{_among_};
+ghost use Rattle.lemmas.specs.Count.{occ, _among_};
+ghost use Rattle.lemmas.specs.Sums.{totalOnce};
 ghost use Rattle.refusals.specs.Checks.{firstMet, numberOf};
 ghost use Rattle.refusals.specs.Outcomes.{outcome};
-ghost use Rattle.calls.specs.Cells.{scan as scanOf, inFirst, filledCount};
+ghost use Rattle.calls.specs.Cells.{scan as scanOf, copiesAt, lowestAt, inFirst, filledCount};
 ghost use Rattle.calls.specs.Calls.{tableChecks, clearTable, lookup as lookupOf, release as releaseOf};
 ghost use Rattle.table.specs.Answers.{clearIs, lookupIs, releaseIs};
-ghost use Rattle.table.specs.Internal.{placeIs};
+ghost use Rattle.table.specs.Internal.{placeIs, scannedIs};
 use index::CandidateList;
 use index::Settings;
 use index::TagEntry;
@@ -22,6 +26,12 @@ pub use search::hold;
 enum Place {
     At(usize),
     Nowhere,
+}
+
+// What the scan of a bucket reports: how many of its cells hold the fingerprint, and the lowest of them.
+struct Scanned {
+    copies: u32,
+    lowest: Place,
 }
 
 // What looking at a bucket comes to: the queue's length after it, and the bucket's lowest empty cell if
@@ -42,9 +52,9 @@ pub enum ClearAnswer {
     Refused(u32),
 }
 
+// Copies has the number of copies: the tag is held where it is above 0.
 pub enum LookupAnswer {
-    Held,
-    Clear,
+    Copies(u32),
     Refused(u32),
 }
 
@@ -75,38 +85,100 @@ pub fn table_refusal(s: Settings, table: &[u16]) -> u32
     0
 }
 
-// The lowest cell of bucket b that holds p.
-fn scan(table: &[u16], b: usize, p: u16) -> Place
+fn one(b: bool) -> u32
+    ensures { λ r. ⌜ (r ≡ cond b 1 0) × (r ≤ 1) ⌝ }
+{
+    if b { 1 } else { 0 }
+}
+
+// Of how many cells it is true.
+fn copies(x: bool, y: bool, z: bool, u: bool) -> u32
+    ensures { λ r. ⌜ r ≡ cond x 1 0 + cond y 1 0 + cond z 1 0 + cond u 1 0 ⌝ }
+{
+    one(x) + one(y) + one(z) + one(u)
+}
+
+// The first of four cells, from cell a on, of which it is true.
+fn first(a: usize, x: bool, y: bool, z: bool, u: bool) -> Place
+    requires { ⌜ a + 4 < 18446744073709551616 ⌝ }
+    ensures { λ r. ⌜ placeIs r ≡ cond x (some a) (cond y (some (a + 1)) (cond z (some (a + 2)) (cond u (some (a + 3)) none))) ⌝ }
+{
+    if x {
+        Place::At(a)
+    } else if y {
+        Place::At(a + 1)
+    } else if z {
+        Place::At(a + 2)
+    } else if u {
+        Place::At(a + 3)
+    } else {
+        Place::Nowhere
+    }
+}
+
+// The scan of bucket b for p. All four cells are compared before anything is decided, so that no
+// branch waits for one of them.
+fn scan(table: &[u16], b: usize, p: u16) -> Scanned
     requires { ⌜ 4 * b + 4 ≤ length (now table) ⌝ }
-    ensures { λ r. ⌜ placeIs r ≡ scanOf (now (table .entry)) p b ⌝ }
+    ensures { λ r. ⌜ scannedIs r ≡ scanOf (now (table .entry)) p b ⌝ }
 {
     let a = 4 * b;
-    if table[a] == p {
-        return Place::At(a);
+    let x = table[a] == p;
+    let y = table[a + 1] == p;
+    let z = table[a + 2] == p;
+    let u = table[a + 3] == p;
+    Scanned {
+        copies: copies(x, y, z, u),
+        lowest: first(a, x, y, z, u),
     }
-    if table[a + 1] == p {
-        return Place::At(a + 1);
+}
+
+// Whether b is none of the first n buckets.
+fn unlisted(buckets: [u32; 4], n: usize, b: u32) -> bool
+    requires { ⌜ n ≤ 4 ⌝ }
+    ensures { λ r. ⌜ r ≡ eqb (occ b (take n buckets)) 0 ⌝ }
+{
+    let mut j = 0;
+    while j < n {
+        if buckets[j] == b {
+            return false;
+        }
+        j += 1;
     }
-    if table[a + 2] == p {
-        return Place::At(a + 2);
+    true
+}
+
+// How many copies of p the listed buckets hold, each bucket counted once however often it is listed.
+fn count(table: &[u16], list: CandidateList, p: u16) -> u32
+    requires { ⌜ (list .count ≤ 4) × ((b : ℕ) → b among take (list .count) (list .buckets) → 4 * b + 4 ≤ length (now table)) ⌝ }
+    ensures { λ r. ⌜ r ≡ totalOnce (length (now (table .entry)) / 4) (copiesAt (now (table .entry)) p) (take (list .count) (list .buckets)) ⌝ }
+{
+    let count = list.count as usize;
+    let buckets = list.buckets;
+    let mut n = 0;
+    let mut at = 0;
+    while at < count {
+        let b = buckets[at];
+        if unlisted(buckets, at, b) {
+            n += scan(table, b as usize, p).copies;
+        }
+        at += 1;
     }
-    if table[a + 3] == p {
-        return Place::At(a + 3);
-    }
-    Place::Nowhere
+    n
 }
 
 // The lowest cell with p in the first of the listed buckets that has one.
 fn find(table: &[u16], list: CandidateList, p: u16) -> Place
     requires { ⌜ (list .count ≤ 4) × ((b : ℕ) → b among take (list .count) (list .buckets) → 4 * b + 4 ≤ length (now table)) ⌝ }
-    ensures { λ r. ⌜ placeIs r ≡ inFirst (scanOf (now (table .entry)) p) (take (list .count) (list .buckets)) ⌝ }
+    ensures { λ r. ⌜ placeIs r ≡ inFirst (lowestAt (now (table .entry)) p) (take (list .count) (list .buckets)) ⌝ }
 {
     let count = list.count as usize;
     let buckets = list.buckets;
     let mut k = 0;
     while k < count {
         let b = buckets[k] as usize;
-        if let Place::At(i) = scan(table, b, p) {
+        let lowest = scan(table, b, p).lowest;
+        if let Place::At(i) = lowest {
             return Place::At(i);
         }
         k += 1;
@@ -164,7 +236,7 @@ pub fn filled(table: &[u16]) -> usize
     n
 }
 
-// Whether a candidate bucket of the tag holds its fingerprint.
+// How many copies of the tag's fingerprint its candidate buckets hold.
 pub fn lookup(s: Settings, table: &[u16], tag: &[u8]) -> LookupAnswer
     ensures { λ r. ⌜ outcome (lookupIs r) (now (table .entry)) ≡ lookupOf s (now (table .entry)) (now (tag .entry)) ⌝ }
 {
@@ -176,10 +248,7 @@ pub fn lookup(s: Settings, table: &[u16], tag: &[u8]) -> LookupAnswer
         TagEntry::Refused(k) => LookupAnswer::Refused(k),
         TagEntry::At(p, home) => {
             let list = index::candidates(s, p, home);
-            match find(table, list, p) {
-                Place::At(_) => LookupAnswer::Held,
-                Place::Nowhere => LookupAnswer::Clear,
-            }
+            LookupAnswer::Copies(count(table, list, p))
         }
     }
 }

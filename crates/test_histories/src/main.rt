@@ -33,11 +33,12 @@ struct Lent {
     words: usize,
 }
 
-// What calls on many tags said: yes, no, or neither.
+// What calls on many tags said: yes, no, or neither, and of lookups how many copies in all.
 struct Counted {
     yes: u64,
     no: u64,
     refused: u64,
+    copies: u64,
 }
 
 // What many holds said, with the sum and the most of their moves, and a hash of all answers.
@@ -324,8 +325,7 @@ fn answer_release(s: index::Settings, cells: &mut [u16], tag: &[u8]) {
 fn answer_lookup(s: index::Settings, cells: &[u16], tag: &[u8]) {
     let answer = table::lookup(s, cells, tag);
     match answer {
-        table::LookupAnswer::Held => print(b"held"),
-        table::LookupAnswer::Clear => print(b"clear"),
+        table::LookupAnswer::Copies(copies) => print_with(b"copies ", copies as u64),
         table::LookupAnswer::Refused(n) => print_refusal(n),
     }
 }
@@ -400,6 +400,7 @@ fn with_yes(t: Counted) -> Counted {
         yes: std::num::wrapping_add_u64(t.yes, 1),
         no: t.no,
         refused: t.refused,
+        copies: t.copies,
     }
 }
 
@@ -408,6 +409,7 @@ fn with_no(t: Counted) -> Counted {
         yes: t.yes,
         no: std::num::wrapping_add_u64(t.no, 1),
         refused: t.refused,
+        copies: t.copies,
     }
 }
 
@@ -416,6 +418,7 @@ fn with_refusal(t: Counted) -> Counted {
         yes: t.yes,
         no: t.no,
         refused: std::num::wrapping_add_u64(t.refused, 1),
+        copies: t.copies,
     }
 }
 
@@ -424,6 +427,7 @@ fn none_counted() -> Counted {
         yes: 0,
         no: 0,
         refused: 0,
+        copies: 0,
     }
 }
 
@@ -435,10 +439,20 @@ fn with_release(t: Counted, answer: table::ReleaseAnswer) -> Counted {
     }
 }
 
+// One more lookup that was not refused.
+fn with_copies(t: Counted, copies: u32) -> Counted {
+    let counted = if copies == 0 { with_no(t) } else { with_yes(t) };
+    Counted {
+        yes: counted.yes,
+        no: counted.no,
+        refused: counted.refused,
+        copies: std::num::wrapping_add_u64(t.copies, copies as u64),
+    }
+}
+
 fn with_lookup(t: Counted, answer: table::LookupAnswer) -> Counted {
     match answer {
-        table::LookupAnswer::Held => with_yes(t),
-        table::LookupAnswer::Clear => with_no(t),
+        table::LookupAnswer::Copies(copies) => with_copies(t, copies),
         table::LookupAnswer::Refused(_) => with_refusal(t),
     }
 }
@@ -484,7 +498,8 @@ fn answer_releases(s: index::Settings, cells: &mut [u16], seed: u64, count: u64)
 
 fn answer_lookups(s: index::Settings, cells: &[u16], seed: u64, count: u64) {
     let t = lookup_all(s, cells, seed, count);
-    print_counted(b"held ", b" clear ", t);
+    print_with(b"copies ", t.copies);
+    print_counted(b" held ", b" clear ", t);
 }
 
 // A request on many tags, or on all cells: its first letter tells its kind.

@@ -1,45 +1,26 @@
-//! The functions of the C library, on slices.
+//! The functions of the C library, on slices. Settings are lent where they stand, as a C program lends
+//! them: a copy for each call would be measured with it.
 
 use oracle::index::Settings;
 use std::ptr;
 
-/// Settings as C's struct has them.
-#[repr(C)]
-struct Lent {
-    rule: u32,
-    width: u32,
-    buckets: u32,
-    mask: u32,
-}
-
-impl Lent {
-    fn of(s: Settings) -> Self {
-        Lent {
-            rule: s.rule,
-            width: s.width,
-            buckets: s.buckets,
-            mask: s.mask,
-        }
-    }
-}
-
 #[rustfmt::skip]
 extern "C" {
-    fn holdlist_settings_check(settings: *const Lent) -> i64;
-    fn holdlist_fingerprint(settings: *const Lent, tag: *const u8, length: usize) -> i64;
-    fn holdlist_home(settings: *const Lent, tag: *const u8, length: usize) -> i64;
-    fn holdlist_offset(settings: *const Lent, fingerprint: u16) -> i64;
-    fn holdlist_candidates(settings: *const Lent, fingerprint: u16, bucket: u32, out: *mut u32) -> i64;
-    fn holdlist_clear(settings: *const Lent, table: *mut u16, cells: usize) -> i64;
-    fn holdlist_lookup(settings: *const Lent, table: *const u16, cells: usize, tag: *const u8, length: usize) -> i64;
-    fn holdlist_release(settings: *const Lent, table: *mut u16, cells: usize, tag: *const u8, length: usize) -> i64;
-    fn holdlist_hold(settings: *const Lent, table: *mut u16, cells: usize, scratch: *mut u32, words: usize, tag: *const u8, length: usize) -> i64;
-    fn holdlist_view_check(settings: *const Lent, table: *const u16, cells: usize, bucket: u32) -> i64;
-    fn holdlist_file_write(settings: *const Lent, table: *const u16, cells: usize, out: *mut u8, room: usize) -> i64;
-    fn holdlist_file_settings(bytes: *const u8, length: usize, settings: *mut Lent) -> i64;
-    fn holdlist_file_read(bytes: *const u8, length: usize, table: *mut u16, cells: usize, settings: *mut Lent) -> i64;
-    fn holdlist_packed_write(settings: *const Lent, table: *const u16, cells: usize, out: *mut u8, room: usize) -> i64;
-    fn holdlist_packed_read(settings: *const Lent, bytes: *const u8, length: usize, table: *mut u16, cells: usize) -> i64;
+    fn holdlist_settings_check(settings: *const Settings) -> i64;
+    fn holdlist_fingerprint(settings: *const Settings, tag: *const u8, length: usize) -> i64;
+    fn holdlist_home(settings: *const Settings, tag: *const u8, length: usize) -> i64;
+    fn holdlist_offset(settings: *const Settings, fingerprint: u16) -> i64;
+    fn holdlist_candidates(settings: *const Settings, fingerprint: u16, bucket: u32, out: *mut u32) -> i64;
+    fn holdlist_clear(settings: *const Settings, table: *mut u16, cells: usize) -> i64;
+    fn holdlist_lookup(settings: *const Settings, table: *const u16, cells: usize, tag: *const u8, length: usize) -> i64;
+    fn holdlist_release(settings: *const Settings, table: *mut u16, cells: usize, tag: *const u8, length: usize) -> i64;
+    fn holdlist_hold(settings: *const Settings, table: *mut u16, cells: usize, scratch: *mut u32, words: usize, tag: *const u8, length: usize) -> i64;
+    fn holdlist_view_check(settings: *const Settings, table: *const u16, cells: usize, bucket: u32) -> i64;
+    fn holdlist_file_write(settings: *const Settings, table: *const u16, cells: usize, out: *mut u8, room: usize) -> i64;
+    fn holdlist_file_settings(bytes: *const u8, length: usize, settings: *mut Settings) -> i64;
+    fn holdlist_file_read(bytes: *const u8, length: usize, table: *mut u16, cells: usize, settings: *mut Settings) -> i64;
+    fn holdlist_packed_write(settings: *const Settings, table: *const u16, cells: usize, out: *mut u8, room: usize) -> i64;
+    fn holdlist_packed_read(settings: *const Settings, bytes: *const u8, length: usize, table: *mut u16, cells: usize) -> i64;
 }
 
 /// The engine. It is lent an empty buffer as null or by its place.
@@ -65,38 +46,38 @@ impl Engine {
         }
     }
 
-    pub fn settings_check(self, s: Settings) -> i64 {
-        unsafe { holdlist_settings_check(&Lent::of(s)) }
+    pub fn settings_check(self, s: &Settings) -> i64 {
+        unsafe { holdlist_settings_check(s) }
     }
 
-    pub fn fingerprint(self, s: Settings, tag: &[u8]) -> i64 {
+    pub fn fingerprint(self, s: &Settings, tag: &[u8]) -> i64 {
         let place = self.place(tag);
-        unsafe { holdlist_fingerprint(&Lent::of(s), place, tag.len()) }
+        unsafe { holdlist_fingerprint(s, place, tag.len()) }
     }
 
-    pub fn home(self, s: Settings, tag: &[u8]) -> i64 {
+    pub fn home(self, s: &Settings, tag: &[u8]) -> i64 {
         let place = self.place(tag);
-        unsafe { holdlist_home(&Lent::of(s), place, tag.len()) }
+        unsafe { holdlist_home(s, place, tag.len()) }
     }
 
-    pub fn offset(self, s: Settings, value: u16) -> i64 {
-        unsafe { holdlist_offset(&Lent::of(s), value) }
+    pub fn offset(self, s: &Settings, value: u16) -> i64 {
+        unsafe { holdlist_offset(s, value) }
     }
 
-    pub fn candidates(self, s: Settings, value: u16, bucket: u32, out: &mut [u32; 4]) -> i64 {
+    pub fn candidates(self, s: &Settings, value: u16, bucket: u32, out: &mut [u32; 4]) -> i64 {
         let place = out.as_mut_ptr();
-        unsafe { holdlist_candidates(&Lent::of(s), value, bucket, place) }
+        unsafe { holdlist_candidates(s, value, bucket, place) }
     }
 
-    pub fn clear(self, s: Settings, table: &mut [u16]) -> i64 {
+    pub fn clear(self, s: &Settings, table: &mut [u16]) -> i64 {
         let place = self.place_mut(table);
-        unsafe { holdlist_clear(&Lent::of(s), place, table.len()) }
+        unsafe { holdlist_clear(s, place, table.len()) }
     }
 
-    pub fn lookup(self, s: Settings, table: &[u16], tag: &[u8]) -> i64 {
+    pub fn lookup(self, s: &Settings, table: &[u16], tag: &[u8]) -> i64 {
         unsafe {
             holdlist_lookup(
-                &Lent::of(s),
+                s,
                 self.place(table),
                 table.len(),
                 self.place(tag),
@@ -105,10 +86,10 @@ impl Engine {
         }
     }
 
-    pub fn release(self, s: Settings, table: &mut [u16], tag: &[u8]) -> i64 {
+    pub fn release(self, s: &Settings, table: &mut [u16], tag: &[u8]) -> i64 {
         unsafe {
             holdlist_release(
-                &Lent::of(s),
+                s,
                 self.place_mut(table),
                 table.len(),
                 self.place(tag),
@@ -117,7 +98,7 @@ impl Engine {
         }
     }
 
-    pub fn hold(self, s: Settings, table: &mut [u16], scratch: &mut [u32], tag: &[u8]) -> i64 {
+    pub fn hold(self, s: &Settings, table: &mut [u16], scratch: &mut [u32], tag: &[u8]) -> i64 {
         unsafe { self.hold_at(s, self.place_mut(table), table.len(), scratch, tag) }
     }
 
@@ -128,14 +109,14 @@ impl Engine {
     /// `table` is good for the cells of the `cells` that the hold reads or writes.
     pub unsafe fn hold_at(
         self,
-        s: Settings,
+        s: &Settings,
         table: *mut u16,
         cells: usize,
         scratch: &mut [u32],
         tag: &[u8],
     ) -> i64 {
         holdlist_hold(
-            &Lent::of(s),
+            s,
             table,
             cells,
             self.place_mut(scratch),
@@ -145,14 +126,14 @@ impl Engine {
         )
     }
 
-    pub fn view_check(self, s: Settings, table: &[u16], bucket: u32) -> i64 {
-        unsafe { holdlist_view_check(&Lent::of(s), self.place(table), table.len(), bucket) }
+    pub fn view_check(self, s: &Settings, table: &[u16], bucket: u32) -> i64 {
+        unsafe { holdlist_view_check(s, self.place(table), table.len(), bucket) }
     }
 
-    pub fn file_write(self, s: Settings, table: &[u16], out: &mut [u8]) -> i64 {
+    pub fn file_write(self, s: &Settings, table: &[u16], out: &mut [u8]) -> i64 {
         unsafe {
             holdlist_file_write(
-                &Lent::of(s),
+                s,
                 self.place(table),
                 table.len(),
                 self.place_mut(out),
@@ -178,10 +159,10 @@ impl Engine {
         }
     }
 
-    pub fn packed_write(self, s: Settings, table: &[u16], out: &mut [u8]) -> i64 {
+    pub fn packed_write(self, s: &Settings, table: &[u16], out: &mut [u8]) -> i64 {
         unsafe {
             holdlist_packed_write(
-                &Lent::of(s),
+                s,
                 self.place(table),
                 table.len(),
                 self.place_mut(out),
@@ -190,10 +171,10 @@ impl Engine {
         }
     }
 
-    pub fn packed_read(self, s: Settings, bytes: &[u8], table: &mut [u16]) -> i64 {
+    pub fn packed_read(self, s: &Settings, bytes: &[u8], table: &mut [u16]) -> i64 {
         unsafe {
             holdlist_packed_read(
-                &Lent::of(s),
+                s,
                 self.place(bytes),
                 bytes.len(),
                 self.place_mut(table),

@@ -216,21 +216,21 @@ impl Pair {
         let few_engine: &mut [u32; 4] = few_engine.try_into().expect("four are lent");
 
         let (found, expected) = match call {
-            Call::Check => (engine.settings_check(s), number(s.check(), |()| 0)),
+            Call::Check => (engine.settings_check(&s), number(s.check(), |()| 0)),
             Call::Fingerprint(tag) => {
                 let (mine, other) = self.tag.parts(tag.len());
                 let answer = index::entry(s, other);
                 let expected = number(answer, |(fingerprint, _)| fingerprint.into());
-                (engine.fingerprint(s, mine), expected)
+                (engine.fingerprint(&s, mine), expected)
             }
             Call::Home(tag) => {
                 let (mine, other) = self.tag.parts(tag.len());
                 let expected = number(index::entry(s, other), |(_, home)| home.into());
-                (engine.home(s, mine), expected)
+                (engine.home(&s, mine), expected)
             }
             Call::Offset(value) => {
                 let expected = number(index::offset(s, value), i64::from);
-                (engine.offset(s, value), expected)
+                (engine.offset(&s, value), expected)
             }
             Call::Candidates(value, bucket) => {
                 let answer = index::candidates(s, value, bucket);
@@ -240,24 +240,24 @@ impl Pair {
                     few_oracle[..list.len()].copy_from_slice(list);
                 }
                 let expected = number(answer, |list| list.len() as i64);
-                (engine.candidates(s, value, bucket, few_engine), expected)
+                (engine.candidates(&s, value, bucket, few_engine), expected)
             }
             Call::Clear => {
                 let (mine, other) = self.table.parts(lend.cells);
                 let expected = number(table::clear(s, other), |()| 0);
-                (engine.clear(s, mine), expected)
+                (engine.clear(&s, mine), expected)
             }
             Call::Lookup(tag) => {
                 let (mine, other) = self.table.parts(lend.cells);
                 let (my_tag, tag) = self.tag.parts(tag.len());
                 let expected = number(table::lookup(s, other, tag), i64::from);
-                (engine.lookup(s, mine, my_tag), expected)
+                (engine.lookup(&s, mine, my_tag), expected)
             }
             Call::Release(tag) => {
                 let (mine, other) = self.table.parts(lend.cells);
                 let (my_tag, tag) = self.tag.parts(tag.len());
                 let expected = number(table::release(s, other, tag), i64::from);
-                (engine.release(s, mine, my_tag), expected)
+                (engine.release(&s, mine, my_tag), expected)
             }
             Call::Hold(tag) => {
                 let (mine, other) = self.table.parts(lend.cells);
@@ -265,7 +265,7 @@ impl Pair {
                 let (scratch, before) = self.scratch.parts(lend.words);
                 let oracle_scratch = &mut self.oracle_scratch[..lend.words];
                 let expected = number(table::hold(s, other, oracle_scratch, tag), i64::from);
-                let found = engine.hold(s, mine, scratch, my_tag);
+                let found = engine.hold(&s, mine, scratch, my_tag);
                 // Only these refusals come before scratch is free to use.
                 if !(-7..=-1).contains(&expected) {
                     before.copy_from_slice(scratch);
@@ -275,13 +275,13 @@ impl Pair {
             Call::View(bucket) => {
                 let (mine, other) = self.table.parts(lend.cells);
                 let expected = -i64::from(table::view_check(s, other, bucket));
-                (engine.view_check(s, mine, bucket), expected)
+                (engine.view_check(&s, mine, bucket), expected)
             }
             Call::FileWrite => {
                 let (mine, other) = self.table.parts(lend.cells);
                 let (my_out, out) = self.out.parts(lend.room);
                 let expected = number(holdfile::write(s, other, out), |n| n as i64);
-                (engine.file_write(s, mine, my_out), expected)
+                (engine.file_write(&s, mine, my_out), expected)
             }
             Call::FileRead => {
                 let (mine, other) = self.table.parts(lend.cells);
@@ -296,13 +296,13 @@ impl Pair {
                 let (mine, other) = self.table.parts(lend.cells);
                 let (my_out, out) = self.out.parts(lend.room);
                 let expected = number(packed::write(s, other, out), |n| n as i64);
-                (engine.packed_write(s, mine, my_out), expected)
+                (engine.packed_write(&s, mine, my_out), expected)
             }
             Call::PackedRead => {
                 let (mine, other) = self.table.parts(lend.cells);
                 let (my_input, input) = self.input.parts(lend.input);
                 let expected = number(packed::read(s, input, other), |n| n as i64);
-                (engine.packed_read(s, my_input, mine), expected)
+                (engine.packed_read(&s, my_input, mine), expected)
             }
         };
 

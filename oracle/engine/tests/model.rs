@@ -29,8 +29,9 @@ struct Seen {
     repeated: u64,
     released: u64,
     absent: u64,
-    held: u64,
     clear: u64,
+    held_once: u64,
+    held_more: u64,
     refused: [u64; 10],
 }
 
@@ -70,7 +71,7 @@ impl<'a> Sides<'a> {
     /// From a table that is cleared, where the settings are good.
     fn new(settings: Settings, cells: usize, mix: &'a mut Mix, seen: &'a mut Seen) -> Self {
         let mut table: Vec<u16> = (0..cells).map(|_| mix.draw() as u16).collect();
-        let answer = Engine { null: false }.clear(settings, &mut table);
+        let answer = Engine { null: false }.clear(&settings, &mut table);
         assert_eq!(said(answer, |_| ()), settings.check());
         if answer < 0 {
             table.fill(0);
@@ -102,7 +103,7 @@ impl<'a> Sides<'a> {
         let before = self.table.clone();
         let refused = match call {
             Call::Hold => {
-                let moves = engine.hold(s, &mut self.table, &mut self.scratch[..words], tag);
+                let moves = engine.hold(&s, &mut self.table, &mut self.scratch[..words], tag);
                 let found = said(moves, |_| ());
                 assert_eq!(found, self.model.hold(tag, words), "{at}");
                 if found.is_ok() {
@@ -113,7 +114,7 @@ impl<'a> Sides<'a> {
                 found.err()
             }
             Call::Release => {
-                let answer = engine.release(s, &mut self.table, tag);
+                let answer = engine.release(&s, &mut self.table, tag);
                 let found = said(answer, |n| n == 1);
                 assert_eq!(found, self.model.release(tag), "{at}");
                 if found == Ok(true) {
@@ -124,10 +125,11 @@ impl<'a> Sides<'a> {
                 found.err()
             }
             Call::Lookup => {
-                let found = said(engine.lookup(s, &self.table, tag), |n| n == 1);
+                let found = said(engine.lookup(&s, &self.table, tag), |n| n as u32);
                 assert_eq!(found, self.model.lookup(tag), "{at}");
-                self.seen.held += u64::from(found == Ok(true));
-                self.seen.clear += u64::from(found == Ok(false));
+                self.seen.clear += u64::from(found == Ok(0));
+                self.seen.held_once += u64::from(found == Ok(1));
+                self.seen.held_more += u64::from(matches!(found, Ok(2..)));
                 found.err()
             }
         };
@@ -242,8 +244,9 @@ fn lists_of_calls() {
         seen.repeated,
         seen.released,
         seen.absent,
-        seen.held,
         seen.clear,
+        seen.held_once,
+        seen.held_more,
     ];
     assert!(told.iter().all(|&count| count > 100), "{seen:?}");
     assert!(refused[9] > 100, "{seen:?}");

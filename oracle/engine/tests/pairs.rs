@@ -65,7 +65,7 @@ impl Guarded {
         // A cell that is fetched from the closed page ends the program.
         unsafe {
             ENGINE.hold_at(
-                self.s,
+                &self.s,
                 self.table,
                 4 * BUCKETS as usize,
                 &mut scratch,

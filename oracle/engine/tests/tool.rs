@@ -328,8 +328,9 @@ impl List {
                 false => "absent".into(),
             },
             _ => match table::lookup(s, table, tag)? {
-                true => "held".into(),
-                false => "clear".into(),
+                0 => "clear".into(),
+                1 => "held, 1 order".into(),
+                copies => format!("held, {copies} orders"),
             },
         })
     }
@@ -988,7 +989,7 @@ fn answers_come_at_once() {
     to.write_all(b"loo").expect("a pipe");
     assert!(answers.recv_timeout(Duration::from_millis(50)).is_err());
     to.write_all(b"kup a\n\nlookup ").expect("a pipe");
-    assert_eq!(next().as_deref(), Ok("held"));
+    assert_eq!(next().as_deref(), Ok("held, 1 order"));
     assert_eq!(next().as_deref(), Ok(""));
     to.write_all(b"b").expect("a pipe");
     drop(to);
@@ -1011,7 +1012,7 @@ fn known_answers() {
         // "a" hashes to af63dc4c8601ec8c.
         ("hold a", "accepted, 0 moves"),
         ("view 3148", "bucket 3148: 3212 0 0 0"),
-        ("lookup 0x61", "held"),
+        ("lookup 0x61", "held, 1 order"),
         ("save f", "saved, 4099 bytes"),
         ("pack p", "packed, 22528 bytes"),
         ("settings 0 4 1 0", "cleared"),
@@ -1019,18 +1020,21 @@ fn known_answers() {
         ("hold a", "accepted, 0 moves"),
         ("hold a", "accepted, 0 moves"),
         ("view 0", "bucket 0: 12 12 0 0"),
+        ("lookup a", "held, 2 orders"),
         (
             "stats",
             "entries 2, buckets 1, load 50.0 %, longest relocation 0",
         ),
         ("release a", "released"),
+        ("lookup a", "held, 1 order"),
         ("release a", "released"),
+        ("lookup a", "clear"),
         ("release a", "absent"),
         (
             "load f",
             "loaded, 1 entry, rule 0, width 12, buckets 4096, mask 0",
         ),
-        ("lookup a", "held"),
+        ("lookup a", "held, 1 order"),
         ("clear", "cleared"),
         ("unpack p", "unpacked, 1 entry"),
         ("view 3148", "bucket 3148: 0 0 0 3212"),
@@ -1038,7 +1042,7 @@ fn known_answers() {
         ("\t", "\t"),
         ("settings 1 16 6 0", "cleared"),
         ("hold a b", "accepted, 0 moves"),
-        ("lookup 0x612062", "held"),
+        ("lookup 0x612062", "held, 1 order"),
         ("lookup a  b", "clear"),
         (
             "stats",
@@ -1046,47 +1050,47 @@ fn known_answers() {
         ),
         (
             "hold 0x6",
-            "line 28: what stands after 0x is not pairs of hexadecimal digits",
+            "line 31: what stands after 0x is not pairs of hexadecimal digits",
         ),
         (
             "holds a",
-            "line 29: there is no such command; help names them",
+            "line 32: there is no such command; help names them",
         ),
         (
             "hold",
-            "line 30: a tag is missing after the command: text, or hexadecimal digits after 0x",
+            "line 33: a tag is missing after the command: text, or hexadecimal digits after 0x",
         ),
-        ("stats 1", "line 31: the command stands alone"),
+        ("stats 1", "line 34: the command stands alone"),
         (
             "view a",
-            "line 32: the bucket is not a number in decimal digits below 4294967296",
+            "line 35: the bucket is not a number in decimal digits below 4294967296",
         ),
         (
             "save g/h",
-            "line 33: cannot write g/h: there is no such file or folder",
+            "line 36: cannot write g/h: there is no such file or folder",
         ),
         (
             "load g",
-            "line 34: cannot read g: there is no such file or folder",
+            "line 37: cannot read g: there is no such file or folder",
         ),
         ("settings", "rule 1, width 16, buckets 6, mask 0"),
         (
             "settings 0 12 0x8 0",
-            "line 36: the bucket count is not a number in decimal digits below 4294967296",
+            "line 39: the bucket count is not a number in decimal digits below 4294967296",
         ),
         (
             "load",
-            "line 37: the name of a file is missing after the command",
+            "line 40: the name of a file is missing after the command",
         ),
-        ("view 1 2", "line 38: view takes one number and no more"),
-        ("view", "line 39: view takes the number of a bucket"),
+        ("view 1 2", "line 41: view takes one number and no more"),
+        ("view", "line 42: view takes the number of a bucket"),
         (
             "settings 0 12 8",
-            "line 40: settings takes four numbers, RULE WIDTH BUCKETS MASK, or none to tell the present ones",
+            "line 43: settings takes four numbers, RULE WIDTH BUCKETS MASK, or none to tell the present ones",
         ),
         (
             "settings 0 12 8 0 0",
-            "line 41: settings takes four numbers and no more: RULE WIDTH BUCKETS MASK",
+            "line 44: settings takes four numbers and no more: RULE WIDTH BUCKETS MASK",
         ),
     ];
     let script: Vec<&str> = pairs.iter().map(|pair| pair.0).collect();
@@ -1730,7 +1734,7 @@ fn long_lines() {
                     for i in [2, 4, 7, 8, 10] {
                         assert_eq!(answers[i - 1], long(i), "{name}");
                     }
-                    assert_eq!(answers[4], "held", "{name}");
+                    assert_eq!(answers[4], "held, 1 order", "{name}");
                 }
             }
             assert_eq!(

@@ -137,7 +137,7 @@ fn byte_order_mark() {
     for (script, expected) in [
         (
             format!("{mark}hold a\nlookup a\n"),
-            "accepted, 0 moves\nheld\n",
+            "accepted, 0 moves\nheld, 1 order\n",
         ),
         (format!("{mark}# first\n"), "# first\n"),
         (format!("{mark}\nhold a"), "\naccepted, 0 moves\n"),

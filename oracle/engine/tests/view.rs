@@ -57,7 +57,7 @@ fn compare(s: Settings, lent: &[u16], bucket: u32, seen: &mut Seen) {
     let part = view(s, lent, bucket);
     assert_eq!(part, table::view(s, lent, bucket), "{at}");
     assert_eq!(lent, before, "{at}");
-    let checked = Engine { null: false }.view_check(s, lent, bucket);
+    let checked = Engine { null: false }.view_check(&s, lent, bucket);
     assert_eq!(checked, -i64::from(number), "{at}");
     match number {
         0 => seen.good += 1,

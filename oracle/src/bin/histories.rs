@@ -60,7 +60,7 @@ impl State {
         table::release(self.settings, &mut self.cells[..self.lent_cells], tag)
     }
 
-    fn lookup(&self, tag: &[u8]) -> Answer<bool> {
+    fn lookup(&self, tag: &[u8]) -> Answer<u32> {
         table::lookup(self.settings, self.cells(), tag)
     }
 
@@ -124,7 +124,7 @@ impl State {
         &mut self,
         seed: u64,
         count: u32,
-        call: impl Fn(&mut State, &[u8]) -> Answer<bool>,
+        mut call: impl FnMut(&mut State, &[u8]) -> Answer<bool>,
     ) -> [u32; 3] {
         let mut counts = [0; 3];
         let mut tags = Tags(seed);
@@ -162,7 +162,9 @@ impl State {
                 format!("accepted {moves}")
             }),
             "release" => said("released", "absent", self.release(&from_hex(fields[1]))),
-            "lookup" => said("held", "clear", self.lookup(&from_hex(fields[1]))),
+            "lookup" => shown(self.lookup(&from_hex(fields[1])), |copies| {
+                format!("copies {copies}")
+            }),
             "view" => self.view(number(1)),
             "holds" => self.holds(seed(1), number(2)),
             "releases" => {
@@ -170,9 +172,13 @@ impl State {
                 format!("released {yes} absent {no} refused {refused}")
             }
             "lookups" => {
-                let call = |state: &mut State, tag: &[u8]| state.lookup(tag);
-                let [yes, no, refused] = self.counted(seed(1), number(2), call);
-                format!("held {yes} clear {no} refused {refused}")
+                let mut copies = 0;
+                let [yes, no, refused] = self.counted(seed(1), number(2), |state, tag| {
+                    let found = state.lookup(tag)?;
+                    copies += u64::from(found);
+                    Ok(found > 0)
+                });
+                format!("copies {copies} held {yes} clear {no} refused {refused}")
             }
             "cells" => self.all_cells(),
             kind => panic!("no such request: {kind}"),
@@ -587,8 +593,12 @@ mod tests {
             ("set 4 1", "none"),
             ("hold 61", "accepted 0"),
             ("cells", "3212 65535 0 0"),
-            ("lookup 61", "held"),
-            ("lookup 62", "clear"),
+            ("lookup 61", "copies 1"),
+            ("lookup 62", "copies 0"),
+            ("hold 61", "accepted 0"),
+            ("lookup 61", "copies 2"),
+            ("lookups 5 2", "copies 0 held 0 clear 2 refused 0"),
+            ("release 61", "released"),
             ("release 61", "released"),
             ("release 61", "absent"),
             ("release ", "refused 7"),

@@ -19,13 +19,10 @@ does c q =
     (ap (λ (x : Settings). lookup x (a .table .now) (a .tag .now)) (s .lent-settings .ensures))
 
 returns : tie.Need-returns
-returns c = does (c .before .before) (c .enum-told .given .1) .number
+returns c = crosses (c .given .ok) (c .given .ensures ∙ does (c .before .before .before .before) (c .before .before .copies .given .1) .number)
 
 returns-2 : tie.Need-returns-2
-returns-2 c = does (c .before .before) (c .enum-told2 .given .1) .number
-
-returns-3 : tie.Need-returns-3
-returns-3 c = crosses (c .refused .ok) (c .refused .ensures ∙ does (c .before .before .before .before) (c .before .before .n .given .1) .number)
+returns-2 c = crosses (c .refused .ok) (c .refused .ensures ∙ does (c .before .before .before .before) (c .before .before .n .given .1) .number)
 
 pub holdlist-lookup-spec : {M : Type 1} → statement M
 holdlist-lookup-spec =
@@ -34,9 +31,8 @@ holdlist-lookup-spec =
     (λ c κs. search needs)
     (λ c κs. search needs)
     (λ c. search needs)
-    (λ c. search needs)
+    (λ c κs. search needs)
     (λ c. search needs)
     (λ c κs. search needs)
     returns
-    returns-2
-    returns-3)
+    returns-2)

@@ -7,10 +7,10 @@ use Rattle.table.proofs.Scans.{Turn, turns-end, turn-among, turn-found,
 use Rattle.table.proofs.find.Statement.{statement}
 use Rattle.table.proofs.find.Tie as tie
 use Rattle.table.specs.Internal.{placeIs}
-use Rattle.calls.specs.Cells.{scan as scanOf}
+use Rattle.calls.specs.Cells.{Scan, lowestAt}
 
 abbrev Inv-loop : tie.InvT-loop
-Inv-loop table p count buckets k₀ k = Turn (scanOf table p) buckets count k
+Inv-loop table p count buckets k₀ k = Turn (lowestAt table p) buckets count k
 
 abbrev μ-loop : tie.MeasureT-loop
 μ-loop table p count buckets k₀ k = count - k
@@ -35,7 +35,7 @@ scan-requires c κs = inside c
 returns : tie.Need-returns Inv-loop μ-loop
 returns c =
     let s = c .before .before .before in
-    turn-found (s .before .before .loop .inv) (s .before .loop-test .taken) (sym (s .scan .ensures) ∙ ap placeIs (c .before .i .given .1))
+    turn-found (s .before .before .loop .inv) (s .before .loop-test .taken) (sym (ap (λ (x : Scan). x .lowest) (s .scan .ensures)) ∙ ap placeIs (c .before .lowest .given .1))
 
 add-k : tie.Need-add-k Inv-loop μ-loop
 add-k c = let l = c .before .before .before in omega (arith, l .before .loop .inv .few, l .loop-test .taken)
@@ -46,7 +46,7 @@ loop-less c = omega arith
 loop-again : tie.Need-loop-again Inv-loop μ-loop
 loop-again c =
     let s = c .before .before in
-    turn-none (s .before .before .loop .inv) (s .before .loop-test .taken) (sym (s .scan .ensures) ∙ ap placeIs (c .enum-told .given .1))
+    turn-none (s .before .before .loop .inv) (s .before .loop-test .taken) (sym (ap (λ (x : Scan). x .lowest) (s .scan .ensures)) ∙ ap placeIs (c .enum-told .given .1))
 
 returns-2 : tie.Need-returns-2 Inv-loop μ-loop
 returns-2 c = turns-end (c .before .loop .inv) (c .loop-test .left)

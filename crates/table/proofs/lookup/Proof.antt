@@ -6,7 +6,6 @@ use Rattle.table.proofs.Guards.{Known, placing, few, inside, tag-stoppe
 use Rattle.calls.proofs.Laws.{table-check-laws}
 use Rattle.table.proofs.lookup.Statement.{statement}
 use Rattle.table.proofs.lookup.Tie as tie
-use Rattle.table.specs.Internal.{placeIs}
 
 -- past the check of settings and table
 passes : (c : tie.Else1) → let a = c .before .before .before .before .args in Sound (a .s) (a .table .now)
@@ -23,8 +22,8 @@ returns : tie.Need-returns
 unfolding lookup
 returns c = tag-stopped _ _ _ (lookupIn _ _) (c .before .table-refusal .ensures) (c .if1 .taken)
 
-find-requires : tie.Need-find-requires
-find-requires c κs = let K = placing (known c) in (few K, inside K)
+count-requires : tie.Need-count-requires
+count-requires c κs = let K = placing (known c) in (few K, inside K)
 
 returns-2 : tie.Need-returns-2
 unfolding lookup
@@ -33,10 +32,7 @@ returns-2 c =
     tag-refused _ _ _ (lookupIn _ _) (passes (d .before)) (sym (ap tagEntryIs (c .before .k .given .1)) ∙ d .entry-of .ensures)
 
 returns-3 : tie.Need-returns-3
-returns-3 c = let d = c .before .before in lookup-told (known (d .before)) (sym (ap placeIs (c .enum-told .given .1)) ∙ d .find .ensures)
-
-returns-4 : tie.Need-returns-4
-returns-4 c = let d = c .before .before in lookup-told (known (d .before)) (sym (ap placeIs (c .enum-told2 .given .1)) ∙ d .find .ensures)
+returns-3 c = lookup-told (known (c .before)) (c .count .ensures)
 
 pub lookup-spec : {M : Type 1} → statement M
 lookup-spec =
@@ -48,9 +44,6 @@ lookup-spec =
     (λ c. search needs)
     (λ c. search needs)
     (λ c κs. search needs)
-    find-requires
-    (λ c. search needs)
-    (λ c. search needs)
+    count-requires
     returns-2
-    returns-3
-    returns-4)
+    returns-3)

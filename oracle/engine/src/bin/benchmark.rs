@@ -8,7 +8,8 @@
 
 use engine::boundary::Engine;
 use oracle::index::{Settings, MASKED, PLAIN, RING};
-use oracle::{holdfile, packed, table};
+use oracle::requests::Mix;
+use oracle::{fast, holdfile, packed, table};
 use std::ptr;
 use std::time::Instant;
 
@@ -16,14 +17,14 @@ const ROUNDS: usize = 9;
 const WIDTH: u32 = 16;
 const ENGINE: Engine = Engine { null: false };
 
-/// One side: every call answers a number, below 0 for a refusal.
+/// One side: every call answers a number, below 0 for a refusal. Fast is the other implementation in
+/// the form that is written for speed, where a call has one.
 #[derive(Clone, Copy)]
 enum Side {
     Engine,
     Other,
+    Fast,
 }
-
-const SIDES: [Side; 2] = [Side::Engine, Side::Other];
 
 fn signed<T>(answer: Result<T, u32>, value: impl Fn(T) -> i64) -> i64 {
     answer.map_or_else(|n| -i64::from(n), value)
@@ -31,34 +32,35 @@ fn signed<T>(answer: Result<T, u32>, value: impl Fn(T) -> i64) -> i64 {
 
 impl Side {
     #[inline(never)]
-    fn hold(self, s: Settings, cells: &mut [u16], scratch: &mut [u32], tag: &[u8]) -> i64 {
+    fn hold(self, s: &Settings, cells: &mut [u16], scratch: &mut [u32], tag: &[u8]) -> i64 {
         match self {
             Side::Engine => ENGINE.hold(s, cells, scratch, tag),
-            Side::Other => signed(table::hold(s, cells, scratch, tag), i64::from),
+            Side::Other | Side::Fast => signed(table::hold(*s, cells, scratch, tag), i64::from),
         }
     }
 
     #[inline(never)]
-    fn lookup(self, s: Settings, cells: &[u16], tag: &[u8]) -> i64 {
+    fn lookup(self, s: &Settings, cells: &[u16], tag: &[u8]) -> i64 {
         match self {
             Side::Engine => ENGINE.lookup(s, cells, tag),
-            Side::Other => signed(table::lookup(s, cells, tag), i64::from),
+            Side::Other => signed(table::lookup(*s, cells, tag), i64::from),
+            Side::Fast => signed(fast::lookup(s, cells, tag), i64::from),
         }
     }
 
     #[inline(never)]
-    fn release(self, s: Settings, cells: &mut [u16], tag: &[u8]) -> i64 {
+    fn release(self, s: &Settings, cells: &mut [u16], tag: &[u8]) -> i64 {
         match self {
             Side::Engine => ENGINE.release(s, cells, tag),
-            Side::Other => signed(table::release(s, cells, tag), i64::from),
+            Side::Other | Side::Fast => signed(table::release(*s, cells, tag), i64::from),
         }
     }
 
     #[inline(never)]
-    fn file_write(self, s: Settings, cells: &[u16], out: &mut [u8]) -> i64 {
+    fn file_write(self, s: &Settings, cells: &[u16], out: &mut [u8]) -> i64 {
         match self {
             Side::Engine => ENGINE.file_write(s, cells, out),
-            Side::Other => signed(holdfile::write(s, cells, out), |n| n as i64),
+            Side::Other | Side::Fast => signed(holdfile::write(*s, cells, out), |n| n as i64),
         }
     }
 
@@ -66,23 +68,23 @@ impl Side {
     fn file_read(self, bytes: &[u8], cells: &mut [u16]) -> i64 {
         match self {
             Side::Engine => ENGINE.file_read(bytes, cells, &mut [0; 4]),
-            Side::Other => signed(holdfile::read(bytes, cells), |_| 0),
+            Side::Other | Side::Fast => signed(holdfile::read(bytes, cells), |_| 0),
         }
     }
 
     #[inline(never)]
-    fn packed_write(self, s: Settings, cells: &[u16], out: &mut [u8]) -> i64 {
+    fn packed_write(self, s: &Settings, cells: &[u16], out: &mut [u8]) -> i64 {
         match self {
             Side::Engine => ENGINE.packed_write(s, cells, out),
-            Side::Other => signed(packed::write(s, cells, out), |n| n as i64),
+            Side::Other | Side::Fast => signed(packed::write(*s, cells, out), |n| n as i64),
         }
     }
 
     #[inline(never)]
-    fn packed_read(self, s: Settings, bytes: &[u8], cells: &mut [u16]) -> i64 {
+    fn packed_read(self, s: &Settings, bytes: &[u8], cells: &mut [u16]) -> i64 {
         match self {
             Side::Engine => ENGINE.packed_read(s, bytes, cells),
-            Side::Other => signed(packed::read(s, bytes, cells), |n| n as i64),
+            Side::Other | Side::Fast => signed(packed::read(*s, bytes, cells), |n| n as i64),
         }
     }
 }
@@ -98,18 +100,23 @@ fn tags(from: u64, count: usize) -> Vec<[u8; 12]> {
         .collect()
 }
 
-/// Medians of nanoseconds, engine and other, over rounds in which the two take turns.
-fn measure(mut run: impl FnMut(Side) -> f64) -> [f64; 2] {
-    let mut times = [Vec::new(), Vec::new()];
+/// Medians of nanoseconds over rounds in which the sides take turns.
+fn medians<const N: usize>(sides: [Side; N], mut run: impl FnMut(Side) -> f64) -> [f64; N] {
+    let mut times = [(); N].map(|()| Vec::new());
     for _ in 0..ROUNDS {
-        for side in SIDES {
-            times[side as usize].push(run(side));
+        for (list, &side) in times.iter_mut().zip(&sides) {
+            list.push(run(side));
         }
     }
     times.map(|mut list| {
         list.sort_by(f64::total_cmp);
         list[ROUNDS / 2]
     })
+}
+
+/// The engine's and the other implementation's.
+fn measure(run: impl FnMut(Side) -> f64) -> [f64; 2] {
+    medians([Side::Engine, Side::Other], run)
 }
 
 /// Takes an answer, so that the call which gave it is not left out.
@@ -140,7 +147,7 @@ fn speed(name: &str, bytes: usize, nanos: [f64; 2]) {
 }
 
 /// A table filled from nothing to a share of its cells.
-fn filled(s: Settings, share: f64, list: &[[u8; 12]]) -> (Vec<u16>, Vec<u32>, usize) {
+fn filled(s: &Settings, share: f64, list: &[[u8; 12]]) -> (Vec<u16>, Vec<u32>, usize) {
     let mut cells = vec![0; 4 * s.buckets as usize];
     let mut scratch = vec![0; 2 * s.buckets as usize];
     let want = (cells.len() as f64 * share) as usize;
@@ -153,7 +160,7 @@ fn filled(s: Settings, share: f64, list: &[[u8; 12]]) -> (Vec<u16>, Vec<u32>, us
 }
 
 /// Nanoseconds for each hold from one load to another, or to the first refusal.
-fn holds(s: Settings, from: f64, to: f64, list: &[[u8; 12]]) -> [f64; 2] {
+fn holds(s: &Settings, from: f64, to: f64, list: &[[u8; 12]]) -> [f64; 2] {
     let (cells, scratch, start) = filled(s, from, list);
     let end = (cells.len() as f64 * to) as usize;
     measure(|side| {
@@ -171,7 +178,7 @@ fn holds(s: Settings, from: f64, to: f64, list: &[[u8; 12]]) -> [f64; 2] {
     })
 }
 
-fn table_rows(name: &str, s: Settings) {
+fn table_rows(name: &str, s: &Settings) {
     let cells_in_all = 4 * s.buckets as usize;
     let list = tags(1, 2 * cells_in_all);
     let others = tags(1 << 40, 100_000);
@@ -192,21 +199,27 @@ fn table_rows(name: &str, s: Settings) {
         holds(s, 0.95, 1.5, &list),
     );
     let (cells, _, held) = filled(s, 0.95, &list);
-    let looked = |list: &[[u8; 12]]| {
-        measure(|side| {
+    // Held tags in the order in which they were held, and in one that has nothing to do with it.
+    let in_order = &list[..held.min(100_000)];
+    let mut mixed = list[..held].to_vec();
+    Mix(1).shuffle(&mut mixed);
+    mixed.truncate(100_000);
+    for (what, tags) in [
+        ("held", in_order),
+        ("held, in any order", &mixed),
+        ("clear", &others),
+    ] {
+        let [engine, other, fast] = medians([Side::Engine, Side::Other, Side::Fast], |side| {
             let nanos = timed(|| {
-                for tag in list {
+                for tag in tags {
                     used(side.lookup(s, &cells, tag));
                 }
             });
-            nanos / list.len() as f64
-        })
-    };
-    time(
-        &format!("{name}, lookup, held"),
-        looked(&list[..held.min(100_000)]),
-    );
-    time(&format!("{name}, lookup, clear"), looked(&others));
+            nanos / tags.len() as f64
+        });
+        time(&format!("{name}, lookup, {what}"), [engine, other]);
+        time(&format!("the same, branch-free"), [engine, fast]);
+    }
     let released = measure(|side| {
         let mut cells = cells.clone();
         let count = held.min(100_000);
@@ -221,7 +234,7 @@ fn table_rows(name: &str, s: Settings) {
 }
 
 /// The two forms of a table filled to a share of its cells.
-fn format_rows(s: Settings, share: f64) {
+fn format_rows(s: &Settings, share: f64) {
     let at = format!("at {:.0} %", 100.0 * share);
     let list = tags(1, 4 * s.buckets as usize);
     let (cells, _, _) = filled(s, share, &list);
@@ -266,17 +279,17 @@ fn main() {
         ("ring, 65,534", RING, 65_534, 0),
         ("masked, 65,536", MASKED, 65_536, 0x0ff0),
     ] {
-        table_rows(name, Settings::new(rule, WIDTH, buckets, mask));
+        table_rows(name, &Settings::new(rule, WIDTH, buckets, mask));
     }
     for buckets in [1_024, 4_096, 16_384, 65_536] {
         let s = Settings::new(PLAIN, WIDTH, buckets, 0);
         let list = tags(1, 4 * buckets as usize);
         time(
             &format!("plain, {buckets} buckets, hold, 85 to 90 %"),
-            holds(s, 0.85, 0.9, &list),
+            holds(&s, 0.85, 0.9, &list),
         );
     }
     for share in [0.95, 0.5] {
-        format_rows(Settings::new(PLAIN, WIDTH, 65_536, 0), share);
+        format_rows(&Settings::new(PLAIN, WIDTH, 65_536, 0), share);
     }
 }
