@@ -1,15 +1,15 @@
 -- The scan as the code makes it: four tests in a row, and one bucket of a list after the other.
 -- Assumes nothing.
-use mathlib.Core.Path.{_≡_, refl, sym, ap, ap₂, subst, _∙_}
+use mathlib.Core.Path.{_≡_, refl, sym, ap, subst, _∙_}
 use mathlib.Core.Logic.{inl, inr, _≢_}
-use mathlib.Core.Bool.{true, false, cond}
+use mathlib.Core.Bool.{Bool, true, false, _||_, cond}
 use mathlib.Core.Option.{Option, none, some}
 use mathlib.Core.List.{List, [], _∷_, _++_}
 use Prim.Native.Nat.{ℕ, suc, _+_, _*_, _/_, _≤_, _<_}
 use native.Mathlib.Numerals.{add-one}
 use native.Mathlib.Omega.{arith}
 use borrow.Author.Tests.{eq-eqb, ne-eqb}
-use lib.Dec.{eqb, eqb→eq}
+use lib.Dec.{T, eqb, eqb→eq}
 use lib.ListN.{length, getD, take, drop, drop-of-length-le, take-append-drop}
 use lib.Seq.{take-suc, drop-cons, length-take-le, getD-take}
 use Rattle.lemmas.specs.Count.{hit, occ, _among_}
@@ -28,6 +28,24 @@ scanned c p b e f =
     let k : _ ≡ copiesAt c p b = e ∙ omega arith in
     λ i. record { copies = k i; lowest = f i }
 
+-- the first of four cells, by the four tests
+abbrev inOrder : ℕ → Bool → Bool → Bool → Bool → Option ℕ
+inOrder a x y z u = cond x (some a) (cond y (some (a + 1)) (cond z (some (a + 2)) (cond u (some (a + 3)) none)))
+
+pub first-told : (a : ℕ) (x y z u : Bool) → (x || y || z || u) ≡ true → {i : ℕ} → i ≡ cond x 0 (cond y 1 (cond z 2 3)) → some (a + i) ≡ inOrder a x y z u
+first-told a true y z u t e = ap some (omega (arith, e))
+first-told a false true z u t e = ap some (omega (arith, e))
+first-told a false false true u t e = ap some (omega (arith, e))
+first-told a false false false true t e = ap some (omega (arith, e))
+first-told a false false false false t e = absurd (subst T (sym t) tt)
+
+pub none-told : (a : ℕ) (x y z u : Bool) → (x || y || z || u) ≡ false → none ≡ inOrder a x y z u
+none-told a false false false false t = refl
+none-told a true y z u t = absurd (subst T t tt)
+none-told a false true z u t = absurd (subst T t tt)
+none-told a false false true u t = absurd (subst T t tt)
+none-told a false false false true t = absurd (subst T t tt)
+
 -- ── the first n of a list, one after the other ──
 pub next-of : (bs : List ℕ) (n k : ℕ) → n ≤ length bs → k < n → drop k (take n bs) ≡ getD bs k 0 ∷ drop (k + 1) (take n bs)
 next-of bs n k l h =
@@ -40,109 +58,98 @@ none-left bs n k l h = drop-of-length-le (take n bs) {i = k} (omega (arith, leng
 pub next-among : (xs : List ℕ) (j x : ℕ) → drop j xs ≡ x ∷ drop (j + 1) xs → x among xs
 next-among xs j x e = omega (arith, ap (occ x) (sym (take-append-drop j xs)) ∙ occ-append x (take j xs) (drop j xs), ap (occ x) e, hit-refl x)
 
--- ── whether a bucket is one of the first n: it is none of those before place j ──
-pub record Before (bs : List ℕ) (n b j : ℕ) : Type 0 where
+-- ── the first n of four buckets ──
+pub record Listed (bs : List ℕ) (n : ℕ) : Type 0 where
   pub few : n ≤ 4
   pub four : length bs ≡ 4
-  pub within : j ≤ n
-  pub unseen : occ b (take j bs) ≡ 0
 
-pub before-start : {bs : List ℕ} {n b : ℕ} → n ≤ 4 → length bs ≡ 4 → Before bs n b 0
-before-start f e = record { few = f; four = e; within = omega arith; unseen = refl }
+module _ {bs : List ℕ} {n : ℕ} (B : Listed bs n) {k : ℕ} where
+  listed-end : n ≤ k → drop k (take n bs) ≡ []
+  listed-end h = none-left bs n k (omega (arith, B .few, B .four)) h
 
--- how often a bucket stands among one more
-one-more : (bs : List ℕ) (b j : ℕ) → j < length bs → occ b (take (j + 1) bs) ≡ occ b (take j bs) + hit b (getD bs j 0)
-one-more bs b j h = rw (add-one j) (ap (occ b) (take-suc bs j 0 h) ∙ occ-append b (take j bs) (getD bs j 0 ∷ []) ∙ omega arith)
+  module _ (h : k < n) where
+    listed-next : drop k (take n bs) ≡ getD bs k 0 ∷ drop (k + 1) (take n bs)
+    listed-next = next-of bs n k (omega (arith, B .few, B .four)) h
 
-module _ {bs : List ℕ} {n b j : ℕ} (K : Before bs n b j) where
-  pub before-next : j < n → getD bs j 0 ≢ b → Before bs n b (j + 1)
-  before-next h d =
+    pub listed-among : getD bs k 0 among take n bs
+    listed-among = next-among (take n bs) k _ listed-next
+
+    listed-more : take (k + 1) bs ≡ take k bs ++ (getD bs k 0 ∷ [])
+    listed-more = rw (add-one k) (take-suc bs k 0 (omega (arith, B .few, B .four)))
+
+-- ── whether bucket b is one of them: those before place j are others ──
+pub record Others (bs : List ℕ) (n b j : ℕ) : Type 0 where
+  pub listed : Listed bs n
+  pub same : occ b (drop j (take n bs)) ≡ occ b (take n bs)
+
+module _ {bs : List ℕ} {n b j : ℕ} (K : Others bs n b j) where
+  pub others-next : j < n → getD bs j 0 ≢ b → Others bs n b (j + 1)
+  others-next h d =
       let z : hit b (getD bs j 0) ≡ 0 = elim (hit-cases b (getD bs j 0)) [ inl e ↦ absurd (d (sym e)) | inr z ↦ z ] in
-      record { few = K .few; four = K .four; within = omega arith; unseen = omega (arith, one-more bs b j (omega (arith, K .few, K .four)), K .unseen) }
+      record { listed = K .listed; same = omega (arith, K .same, ap (occ b) (listed-next (K .listed) h)) }
 
-  pub before-found : j < n → getD bs j 0 ≡ b → false ≡ eqb (occ b (take n bs)) 0
-  before-found h e =
-      let m : b among take n bs = subst (λ (x : ℕ). x among take n bs) e (next-among (take n bs) j _ (next-of bs n j (omega (arith, K .few, K .four)) h)) in
-      rw (ne-eqb (occ b (take n bs)) 0 (λ z. omega arith)) refl
+  pub others-found : j < n → getD bs j 0 ≡ b → false ≡ eqb (occ b (take n bs)) 0
+  others-found h e =
+      let m : b among take n bs = subst (λ (x : ℕ). x among take n bs) e (listed-among (K .listed) h) in
+      sym (ne-eqb (occ b (take n bs)) 0 (λ z. omega arith))
 
-  pub before-end : n ≤ j → true ≡ eqb (occ b (take n bs)) 0
-  before-end h =
-      let m : j ≡ n = omega (arith, K .within) in
-      rw (eq-eqb (occ b (take n bs)) 0 (subst (λ (x : ℕ). occ b (take x bs) ≡ 0) m (K .unseen))) refl
+  pub others-end : n ≤ j → true ≡ eqb (occ b (take n bs)) 0
+  others-end h = sym (eq-eqb (occ b (take n bs)) 0 (omega (arith, K .same, ap (occ b) (listed-end (K .listed) h))))
 
--- ── the buckets in turn: bucket k of the first n, at most four, and none before it gave anything ──
+-- ── the buckets in turn: bucket k, and none before it gave anything ──
 pub record Turn (f : ℕ → Option ℕ) (bs : List ℕ) (n k : ℕ) : Type 0 where
-  pub few : n ≤ 4
-  pub four : length bs ≡ 4
+  pub listed : Listed bs n
   pub same : inFirst f (drop k (take n bs)) ≡ inFirst f (take n bs)
 
 module _ {f : ℕ → Option ℕ} {bs : List ℕ} {n k : ℕ} (K : Turn f bs n k) where
-  counted : n ≤ length bs
-  counted = omega (arith, K .few, K .four)
-
   pub turns-end : n ≤ k → none ≡ inFirst f (take n bs)
-  turns-end h = sym (ap (inFirst f) (none-left bs n k counted h)) ∙ K .same
+  turns-end h = sym (ap (inFirst f) (listed-end (K .listed) h)) ∙ K .same
 
   module _ (h : k < n) where
-    pub turn-among : getD bs k 0 among take n bs
-    turn-among = next-among (take n bs) k _ (next-of bs n k counted h)
-
     given : {o : Option ℕ} → f (getD bs k 0) ≡ o → orElse o (inFirst f (drop (k + 1) (take n bs))) ≡ inFirst f (take n bs)
-    given e = rw (sym e) (sym (ap (inFirst f) (next-of bs n k counted h)) ∙ K .same)
+    given e = rw (sym e) (sym (ap (inFirst f) (listed-next (K .listed) h)) ∙ K .same)
 
     pub turn-found : {i : ℕ} → f (getD bs k 0) ≡ some i → some i ≡ inFirst f (take n bs)
     turn-found e = given e
 
     pub turn-none : f (getD bs k 0) ≡ none → Turn f bs n (k + 1)
-    turn-none e = record { few = K .few; four = K .four; same = given e }
+    turn-none e = record { listed = K .listed; same = given e }
 
--- ── the copies in the buckets before place k of the first n, each bucket counted once ──
-pub record Counted (c : List ℕ) (p : ℕ) (bs : List ℕ) (n total k : ℕ) : Type 0 where
-  pub few : n ≤ 4
-  pub four : length bs ≡ 4
+-- ── the copies in the buckets before place k, each bucket counted once ──
+pub record Counted (c : List ℕ) (p : ℕ) (bs : List ℕ) (n copies k : ℕ) : Type 0 where
+  pub listed : Listed bs n
   pub within : k ≤ n
-  pub small : total ≤ 4 * k
-  pub so-far : total ≡ totalOnce (length c / 4) (copiesAt c p) (take k bs)
+  pub small : copies ≤ 4 * k
+  pub so-far : copies ≡ totalOnce (length c / 4) (copiesAt c p) (take k bs)
 
-pub counted-start : {c : List ℕ} {p : ℕ} {bs : List ℕ} {n : ℕ} → n ≤ 4 → length bs ≡ 4 → Counted c p bs n 0 0
-counted-start f e = record { few = f; four = e; within = omega arith; small = omega arith; so-far = sym (once-nil _ _) }
+pub counted-start : {c : List ℕ} {p : ℕ} {bs : List ℕ} {n : ℕ} → Listed bs n → Counted c p bs n 0 0
+counted-start B = record { listed = B; within = omega arith; small = omega arith; so-far = sym (once-nil _ _) }
 
 module _ {c : List ℕ} {p : ℕ} {bs : List ℕ} {n t k : ℕ} (K : Counted c p bs n t k) where
-  pub counted-end : n ≤ k → t ≡ totalOnce (length c / 4) (copiesAt c p) (take n bs)
-  counted-end h = let e : k ≡ n = omega (arith, K .within) in subst (λ (x : ℕ). t ≡ totalOnce (length c / 4) (copiesAt c p) (take x bs)) e (K .so-far)
+  abbrev sum : List ℕ → ℕ
+  sum l = totalOnce (length c / 4) (copiesAt c p) l
 
-  module _ (h : k < n) where
-    within-all : n ≤ length bs
-    within-all = omega (arith, K .few, K .four)
+  pub counted-end : n ≤ k → t ≡ sum (take n bs)
+  counted-end h = let e : k ≡ n = omega (arith, K .within) in subst (λ (x : ℕ). t ≡ sum (take x bs)) e (K .so-far)
 
-    pub counted-among : getD bs k 0 among take n bs
-    counted-among = next-among (take n bs) k _ (next-of bs n k within-all h)
+  module _ (h : k < n) (m : 4 * getD bs k 0 + 4 ≤ length c) where
+    -- a bucket that was listed before, and one that was not
+    pub counted-again : eqb (occ (getD bs k 0) (take k bs)) 0 ≡ false → Counted c p bs n t (k + 1)
+    counted-again e =
+        let q : occ (getD bs k 0) (take k bs) ≢ 0 = eqb-ne (occ (getD bs k 0) (take k bs)) 0 e in
+        record {
+          listed = K .listed;
+          within = omega arith;
+          small = omega (arith, K .small);
+          so-far = omega (arith, K .so-far, ap sum (listed-more (K .listed) h), once-again (length c / 4) (copiesAt c p) (take k bs) (getD bs k 0) (omega arith) (omega arith));
+        }
 
-    taken-more : take (k + 1) bs ≡ take k bs ++ (getD bs k 0 ∷ [])
-    taken-more = rw (add-one k) (take-suc bs k 0 (omega (arith, within-all)))
-
-    module _ (m : 4 * getD bs k 0 + 4 ≤ length c) where
-      -- a bucket that was listed before, and one that was not
-      pub counted-again : eqb (occ (getD bs k 0) (take k bs)) 0 ≡ false → Counted c p bs n t (k + 1)
-      counted-again e =
-          let q : occ (getD bs k 0) (take k bs) ≢ 0 = eqb-ne (occ (getD bs k 0) (take k bs)) 0 e in
-          let g : getD bs k 0 among take k bs = omega arith in
-          record {
-            few = K .few;
-            four = K .four;
-            within = omega arith;
-            small = omega (arith, K .small);
-            so-far = K .so-far ∙ sym (ap (totalOnce (length c / 4) (copiesAt c p)) taken-more ∙ once-again (length c / 4) (copiesAt c p) (take k bs) (getD bs k 0) (omega arith) g);
-          }
-
-      pub counted-new : eqb (occ (getD bs k 0) (take k bs)) 0 ≡ true → {v : ℕ} → v ≡ copiesAt c p (getD bs k 0) → Counted c p bs n (t + v) (k + 1)
-      counted-new e f =
-          let g : occ (getD bs k 0) (take k bs) ≡ 0 = eqb→eq (occ (getD bs k 0) (take k bs)) 0 (T-of e) in
-          record {
-            few = K .few;
-            four = K .four;
-            within = omega arith;
-            small = omega (arith, K .small, f, scan-laws .most c p (getD bs k 0));
-            so-far = ap₂ (λ (x y : ℕ). x + y) (K .so-far) f
-                ∙ sym (ap (totalOnce (length c / 4) (copiesAt c p)) taken-more ∙ once-new (length c / 4) (copiesAt c p) (take k bs) (getD bs k 0) (omega arith) g);
-          }
+    pub counted-new : eqb (occ (getD bs k 0) (take k bs)) 0 ≡ true → {v : ℕ} → v ≡ copiesAt c p (getD bs k 0) → Counted c p bs n (t + v) (k + 1)
+    counted-new e f =
+        let g : occ (getD bs k 0) (take k bs) ≡ 0 = eqb→eq (occ (getD bs k 0) (take k bs)) 0 (T-of e) in
+        record {
+          listed = K .listed;
+          within = omega arith;
+          small = omega (arith, K .small, f, scan-laws .most c p (getD bs k 0));
+          so-far = omega (arith, K .so-far, f, ap sum (listed-more (K .listed) h), once-new (length c / 4) (copiesAt c p) (take k bs) (getD bs k 0) (omega arith) g);
+        }

@@ -1,7 +1,7 @@
 // The table of a cuckoo filter: clear, lookup, release and hold over cells that the caller lends. Bucket
 // b is cells 4b to 4b + 3, and 0 is an empty cell.
 ghost use mathlib.Core.Path.{_≡_};
-ghost use mathlib.Core.Bool.{cond};
+ghost use mathlib.Core.Bool.{_||_, cond};
 ghost use mathlib.Core.Option.{none, some};
 ghost use Prim.Native.Nat.{ℕ, _+_, _*_, _/_, _%_, _<_, _≤_};
 ghost use lib.Dec.{eqb};
@@ -98,19 +98,35 @@ fn copies(x: bool, y: bool, z: bool, u: bool) -> u32
     one(x) + one(y) + one(z) + one(u)
 }
 
-// The first of four cells, from cell a on, of which it is true.
-fn first(a: usize, x: bool, y: bool, z: bool, u: bool) -> Place
+// Whether it is true of one.
+fn any(x: bool, y: bool, z: bool, u: bool) -> bool
+    ensures { λ r. ⌜ r ≡ x || y || z || u ⌝ }
+{
+    x | y | z | u
+}
+
+// The first of four of which it is true, where it is true of one.
+fn first(x: bool, y: bool, z: bool) -> usize
+    ensures { λ r. ⌜ (r ≡ cond x 0 (cond y 1 (cond z 2 3))) × (r ≤ 3) ⌝ }
+{
+    if x {
+        0
+    } else if y {
+        1
+    } else if z {
+        2
+    } else {
+        3
+    }
+}
+
+// The first of the four cells from cell a on of which it is true. One branch, for all four.
+fn lowest(a: usize, x: bool, y: bool, z: bool, u: bool) -> Place
     requires { ⌜ a + 4 < 18446744073709551616 ⌝ }
     ensures { λ r. ⌜ placeIs r ≡ cond x (some a) (cond y (some (a + 1)) (cond z (some (a + 2)) (cond u (some (a + 3)) none))) ⌝ }
 {
-    if x {
-        Place::At(a)
-    } else if y {
-        Place::At(a + 1)
-    } else if z {
-        Place::At(a + 2)
-    } else if u {
-        Place::At(a + 3)
+    if any(x, y, z, u) {
+        Place::At(a + first(x, y, z))
     } else {
         Place::Nowhere
     }
@@ -129,7 +145,7 @@ fn scan(table: &[u16], b: usize, p: u16) -> Scanned
     let u = table[a + 3] == p;
     Scanned {
         copies: copies(x, y, z, u),
-        lowest: first(a, x, y, z, u),
+        lowest: lowest(a, x, y, z, u),
     }
 }
 

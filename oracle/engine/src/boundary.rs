@@ -32,6 +32,7 @@ pub struct Engine {
 // Each call lends slices whole, so that what the library is handed is good for the count that goes
 // with it, and no two overlap where one is written.
 impl Engine {
+    #[inline]
     fn place<T>(self, part: &[T]) -> *const T {
         match self.null && part.is_empty() {
             true => ptr::null(),
@@ -39,6 +40,7 @@ impl Engine {
         }
     }
 
+    #[inline]
     fn place_mut<T>(self, part: &mut [T]) -> *mut T {
         match self.null && part.is_empty() {
             true => ptr::null_mut(),
@@ -46,34 +48,41 @@ impl Engine {
         }
     }
 
+    #[inline]
     pub fn settings_check(self, s: &Settings) -> i64 {
         unsafe { holdlist_settings_check(s) }
     }
 
+    #[inline]
     pub fn fingerprint(self, s: &Settings, tag: &[u8]) -> i64 {
         let place = self.place(tag);
         unsafe { holdlist_fingerprint(s, place, tag.len()) }
     }
 
+    #[inline]
     pub fn home(self, s: &Settings, tag: &[u8]) -> i64 {
         let place = self.place(tag);
         unsafe { holdlist_home(s, place, tag.len()) }
     }
 
+    #[inline]
     pub fn offset(self, s: &Settings, value: u16) -> i64 {
         unsafe { holdlist_offset(s, value) }
     }
 
+    #[inline]
     pub fn candidates(self, s: &Settings, value: u16, bucket: u32, out: &mut [u32; 4]) -> i64 {
         let place = out.as_mut_ptr();
         unsafe { holdlist_candidates(s, value, bucket, place) }
     }
 
+    #[inline]
     pub fn clear(self, s: &Settings, table: &mut [u16]) -> i64 {
         let place = self.place_mut(table);
         unsafe { holdlist_clear(s, place, table.len()) }
     }
 
+    #[inline]
     pub fn lookup(self, s: &Settings, table: &[u16], tag: &[u8]) -> i64 {
         unsafe {
             holdlist_lookup(
@@ -86,6 +95,7 @@ impl Engine {
         }
     }
 
+    #[inline]
     pub fn release(self, s: &Settings, table: &mut [u16], tag: &[u8]) -> i64 {
         unsafe {
             holdlist_release(
@@ -98,6 +108,7 @@ impl Engine {
         }
     }
 
+    #[inline]
     pub fn hold(self, s: &Settings, table: &mut [u16], scratch: &mut [u32], tag: &[u8]) -> i64 {
         unsafe { self.hold_at(s, self.place_mut(table), table.len(), scratch, tag) }
     }
@@ -107,6 +118,7 @@ impl Engine {
     /// # Safety
     ///
     /// `table` is good for the cells of the `cells` that the hold reads or writes.
+    #[inline]
     pub unsafe fn hold_at(
         self,
         s: &Settings,
@@ -126,10 +138,12 @@ impl Engine {
         )
     }
 
+    #[inline]
     pub fn view_check(self, s: &Settings, table: &[u16], bucket: u32) -> i64 {
         unsafe { holdlist_view_check(s, self.place(table), table.len(), bucket) }
     }
 
+    #[inline]
     pub fn file_write(self, s: &Settings, table: &[u16], out: &mut [u8]) -> i64 {
         unsafe {
             holdlist_file_write(
@@ -142,11 +156,13 @@ impl Engine {
         }
     }
 
+    #[inline]
     pub fn file_settings(self, bytes: &[u8], settings: &mut [u32; 4]) -> i64 {
         let out = settings.as_mut_ptr().cast();
         unsafe { holdlist_file_settings(self.place(bytes), bytes.len(), out) }
     }
 
+    #[inline]
     pub fn file_read(self, bytes: &[u8], table: &mut [u16], settings: &mut [u32; 4]) -> i64 {
         unsafe {
             holdlist_file_read(
@@ -159,6 +175,7 @@ impl Engine {
         }
     }
 
+    #[inline]
     pub fn packed_write(self, s: &Settings, table: &[u16], out: &mut [u8]) -> i64 {
         unsafe {
             holdlist_packed_write(
@@ -171,6 +188,7 @@ impl Engine {
         }
     }
 
+    #[inline]
     pub fn packed_read(self, s: &Settings, bytes: &[u8], table: &mut [u16]) -> i64 {
         unsafe {
             holdlist_packed_read(

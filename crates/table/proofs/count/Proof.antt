@@ -6,7 +6,7 @@ use mathlib.Core.Path.{ap, sym, _∙_}
 use native.Mathlib.Omega.{arith}
 use Rattle.calls.specs.Cells.{Scan}
 use Rattle.calls.proofs.Laws.{scan-laws}
-use Rattle.table.proofs.Scans.{Counted, counted-start, counted-end, counted-among, counted-again, counted-new}
+use Rattle.table.proofs.Scans.{Counted, listed-among, counted-start, counted-end, counted-again, counted-new}
 use Rattle.table.proofs.count.Statement.{statement}
 use Rattle.table.proofs.count.Tie as tie
 
@@ -19,16 +19,16 @@ abbrev μ-loop : tie.MeasureT-loop
 -- the bucket of this turn is in the table
 inside : (c : tie.In-loop Inv-loop μ-loop) → let a = c .before .before .before .before .before .args in
     4 * getD (a .list .buckets) (c .before .loop .at) 0 + 4 ≤ length (a .table .now)
-inside c = c .before .before .before .before .before .pre .1 _ (counted-among (c .before .loop .inv) (c .loop-test .taken))
+inside c = c .before .before .before .before .before .pre .1 _ (listed-among (c .before .loop .inv .listed) (c .loop-test .taken))
 
 loop-holds : tie.Need-loop-holds Inv-loop μ-loop
-loop-holds c = counted-start (c .before .before .before .pre .0) (search needs)
+loop-holds c = counted-start (record { few = c .before .before .before .pre .0; four = search needs })
 
 array-read-b : tie.Need-array-read-b Inv-loop μ-loop
-array-read-b c = omega (arith, c .before .loop .inv .few, c .loop-test .taken)
+array-read-b c = omega (arith, c .before .loop .inv .listed .few, c .loop-test .taken)
 
 unlisted-requires : tie.Need-unlisted-requires Inv-loop μ-loop
-unlisted-requires c κs = omega (arith, c .before .loop .inv .few, c .loop-test .taken)
+unlisted-requires c κs = omega (arith, c .before .loop .inv .listed .few, c .loop-test .taken)
 
 cast-scan : tie.Need-cast-scan Inv-loop μ-loop
 cast-scan c = omega (arith, inside (c .before .before))
@@ -42,10 +42,10 @@ add-n c =
     let a = turn .before .before .before .before .before .args in
     let so-far = turn .before .loop .inv in
     let b = getD (a .list .buckets) (turn .before .loop .at) 0 in
-    omega (arith, so-far .small, so-far .few, turn .loop-test .taken, ap (λ (x : Scan). x .copies) (c .before .scan .ensures), scan-laws .most (a .table .now) (a .p) b)
+    omega (arith, so-far .small, so-far .listed .few, turn .loop-test .taken, ap (λ (x : Scan). x .copies) (c .before .scan .ensures), scan-laws .most (a .table .now) (a .p) b)
 
 add-at : tie.Need-add-at Inv-loop μ-loop
-add-at c = let turn = c .before .before in omega (arith, turn .before .loop .inv .few, turn .loop-test .taken)
+add-at c = let turn = c .before .before in omega (arith, turn .before .loop .inv .listed .few, turn .loop-test .taken)
 
 loop-less : tie.Need-loop-less Inv-loop μ-loop
 loop-less c = omega (arith, c .before .before .loop-test .taken)

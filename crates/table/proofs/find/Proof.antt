@@ -3,7 +3,7 @@ use borrow.Author.Needs.{needs}
 use lib.ListN.{length, getD}
 use mathlib.Core.Path.{refl, ap, sym, _∙_}
 use native.Mathlib.Omega.{arith}
-use Rattle.table.proofs.Scans.{Turn, turns-end, turn-among, turn-found, turn-none}
+use Rattle.table.proofs.Scans.{Turn, listed-among, turns-end, turn-found, turn-none}
 use Rattle.table.proofs.find.Statement.{statement}
 use Rattle.table.proofs.find.Tie as tie
 use Rattle.table.specs.Internal.{placeIs}
@@ -18,13 +18,13 @@ abbrev μ-loop : tie.MeasureT-loop
 -- the bucket of this turn is in the table
 inside : (c : tie.In-loop Inv-loop μ-loop) → let a = c .before .before .before .before .before .args in
     4 * getD (a .list .buckets) (c .before .loop .k) 0 + 4 ≤ length (a .table .now)
-inside c = c .before .before .before .before .before .pre .1 _ (turn-among (c .before .loop .inv) (c .loop-test .taken))
+inside c = c .before .before .before .before .before .pre .1 _ (listed-among (c .before .loop .inv .listed) (c .loop-test .taken))
 
 loop-holds : tie.Need-loop-holds Inv-loop μ-loop
-loop-holds c = record { few = c .before .before .before .pre .0; four = search needs; same = refl }
+loop-holds c = record { listed = record { few = c .before .before .before .pre .0; four = search needs }; same = refl }
 
 array-read-b : tie.Need-array-read-b Inv-loop μ-loop
-array-read-b c = omega arith
+array-read-b c = omega (arith, c .before .loop .inv .listed .few, c .loop-test .taken)
 
 cast-b : tie.Need-cast-b Inv-loop μ-loop
 cast-b c = omega (arith, inside c)
@@ -38,7 +38,7 @@ returns c =
     turn-found (s .before .before .loop .inv) (s .before .loop-test .taken) (sym (ap (λ (x : Scan). x .lowest) (s .scan .ensures)) ∙ ap placeIs (c .before .lowest .given .1))
 
 add-k : tie.Need-add-k Inv-loop μ-loop
-add-k c = let l = c .before .before .before in omega (arith, l .before .loop .inv .few, l .loop-test .taken)
+add-k c = let l = c .before .before .before in omega (arith, l .before .loop .inv .listed .few, l .loop-test .taken)
 
 loop-less : tie.Need-loop-less Inv-loop μ-loop
 loop-less c = omega arith

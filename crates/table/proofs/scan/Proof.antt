@@ -9,7 +9,7 @@ unfolding scan
 returns c =
     let compared = c .before .before in
     let a = compared .before .before .before .before .before .args in
-    scanned (a .table .now) (a .p) (a .b) (c .before .copies .ensures) (c .first .ensures)
+    scanned (a .table .now) (a .p) (a .b) (c .before .copies .ensures) (c .lowest .ensures)
 
 pub scan-spec : {M : Type 1} → statement M
 scan-spec =

@@ -1,8 +1,9 @@
 //! The engine and the other implementation on the same inputs, in one run.
 //!
-//! Each measurement is taken several times, the two sides in turn, and the medians are printed with
-//! their ratio: below 1.00 the engine is faster. Both are optimised; the engine is called through
-//! the C boundary, the other implementation through functions that are not inlined.
+//! Each measurement is taken several times, the sides in turn, and the medians are printed with
+//! their ratio: below 1.00 the engine is faster. All are optimised; the engine is called through
+//! the C boundary, the other implementation through functions that are not inlined. Lookups are
+//! measured against the other implementation's plain form and against its fast one.
 //!
 //! `./benchmark` at the top of the repository makes the engine's library and runs this.
 
@@ -218,7 +219,7 @@ fn table_rows(name: &str, s: &Settings) {
             nanos / tags.len() as f64
         });
         time(&format!("{name}, lookup, {what}"), [engine, other]);
-        time(&format!("the same, branch-free"), [engine, fast]);
+        time("the same, against a branch-free one", [engine, fast]);
     }
     let released = measure(|side| {
         let mut cells = cells.clone();
