@@ -42,9 +42,9 @@ extern "C" {
 
 /* The version, that of the whole repository (its file VERSION). */
 #define HOLDLIST_VERSION_MAJOR 0
-#define HOLDLIST_VERSION_MINOR 2
+#define HOLDLIST_VERSION_MINOR 3
 #define HOLDLIST_VERSION_PATCH 0
-#define HOLDLIST_VERSION "0.2.0"
+#define HOLDLIST_VERSION "0.3.0"
 
 /* Settings, any numbers of which can be handed in. */
 typedef struct {
@@ -179,8 +179,8 @@ int64_t holdlist_clear(const holdlist_settings *settings, uint16_t *table, size_
  * Looks a tag up. Answers how many copies of its fingerprint its candidate buckets have, each bucket counted once: 0
  * where the tag is clear, above 0 where it is held. As long as nothing is released that was not held, a tag counts at
  * least as often as it was held and not released, and beyond that only where another with its fingerprint and
- * candidates is held; so a tag that was never held may count too. One release takes one copy out. Writes nothing.
- * Refuses with 1 to 4, 5, 7.
+ * candidates is held; so a tag that was never held may count too. One release takes one copy out. (Before version 0.3
+ * the answer was 1 wherever the tag was held.) Writes nothing. Refuses with 1 to 4, 5, 7.
  */
 int64_t holdlist_lookup(const holdlist_settings *settings, const uint16_t *table, size_t table_count,
                         const uint8_t *tag, size_t tag_count);

@@ -543,7 +543,7 @@ fn main() {
         return;
     }
     if o.version {
-        io::write_all(STDOUT_FILENO, b"gedrunelj 0.2.0\n");
+        io::write_all(STDOUT_FILENO, b"gedrunelj 0.3.0\n");
         report(o.report, 0);
         return;
     }

@@ -3,7 +3,7 @@
 ghost use mathlib.Core.Path.{_≡_};
 ghost use mathlib.Core.Bool.{_||_, cond};
 ghost use mathlib.Core.Option.{none, some};
-ghost use Prim.Native.Nat.{ℕ, _+_, _*_, _/_, _%_, _<_, _≤_};
+ghost use Prim.Native.Nat.{ℕ, _+_, _*_, _/_, _%_, _^_, _<_, _≤_};
 ghost use lib.Dec.{eqb};
 ghost use lib.ListN.{length, take, set};
 ghost use Rattle.lemmas.specs.Count.{occ, _among_};
@@ -85,27 +85,28 @@ pub fn table_refusal(s: Settings, table: &[u16]) -> u32
     0
 }
 
+// 1 for true.
 fn one(b: bool) -> u32
     ensures { λ r. ⌜ (r ≡ cond b 1 0) × (r ≤ 1) ⌝ }
 {
     if b { 1 } else { 0 }
 }
 
-// Of how many cells it is true.
+// Four tests, one for each cell of a bucket: how many of them hold.
 fn copies(x: bool, y: bool, z: bool, u: bool) -> u32
     ensures { λ r. ⌜ r ≡ cond x 1 0 + cond y 1 0 + cond z 1 0 + cond u 1 0 ⌝ }
 {
     one(x) + one(y) + one(z) + one(u)
 }
 
-// Whether it is true of one.
+// Whether one of the four holds.
 fn any(x: bool, y: bool, z: bool, u: bool) -> bool
     ensures { λ r. ⌜ r ≡ x || y || z || u ⌝ }
 {
     x | y | z | u
 }
 
-// The first of four of which it is true, where it is true of one.
+// Which of the four is the first that holds, where one does.
 fn first(x: bool, y: bool, z: bool) -> usize
     ensures { λ r. ⌜ (r ≡ cond x 0 (cond y 1 (cond z 2 3))) × (r ≤ 3) ⌝ }
 {
@@ -120,9 +121,10 @@ fn first(x: bool, y: bool, z: bool) -> usize
     }
 }
 
-// The first of the four cells from cell a on of which it is true. One branch, for all four.
+// The cell of the first that holds, in the bucket that starts at cell a. There is one branch for all
+// four.
 fn lowest(a: usize, x: bool, y: bool, z: bool, u: bool) -> Place
-    requires { ⌜ a + 4 < 18446744073709551616 ⌝ }
+    requires { ⌜ a + 3 < 2 ^ 64 ⌝ }
     ensures { λ r. ⌜ placeIs r ≡ cond x (some a) (cond y (some (a + 1)) (cond z (some (a + 2)) (cond u (some (a + 3)) none))) ⌝ }
 {
     if any(x, y, z, u) {
