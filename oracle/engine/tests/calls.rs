@@ -3,7 +3,7 @@
 use engine::make::{long, one_of, settings, spoil, tag};
 use engine::pair::{Call, Lend, Pair};
 use oracle::fnv_strings::KNOWN;
-use oracle::index::{Settings, MASKED, PLAIN, RING};
+use oracle::index::{self, Settings, MASKED, PLAIN, RING};
 
 #[test]
 fn settings_grid() {
@@ -105,6 +105,47 @@ fn candidates() {
         pair.run(Lend::of(s), Call::Offset(value));
     }
     pair.done(&[1, 2, 3, 4, 8]);
+}
+
+/// Lookups and releases in tables of any values, many of them the tag's own fingerprint or one bit
+/// beside it: the number is that of the cells in all candidate buckets, and each release takes one.
+#[test]
+fn copies_in_any_table() {
+    let mut pair = Pair::new("copies");
+    let (mut coinciding, mut most) = (0, 0);
+    for _ in 0..4_000 * long() {
+        let s = settings(&mut pair.mix, 5);
+        let lend = Lend::of(s);
+        pair.size(lend.cells, 0, 0);
+        let tag = pair.mix.bytes(4);
+        let (fingerprint, home) = index::entry(s, &tag).expect("good settings and a good tag");
+        let candidates = index::candidates(s, fingerprint, home).expect("a home bucket");
+        let cells: Vec<u16> = (0..lend.cells)
+            .map(|_| match pair.mix.below(3) {
+                0 => fingerprint,
+                1 => fingerprint ^ 1 << pair.mix.below(16),
+                _ => pair.mix.draw() as u16,
+            })
+            .collect();
+        pair.set_table(0, &cells);
+        let copies = (0..cells.len())
+            .filter(|&i| cells[i] == fingerprint && candidates.contains(&(i as u32 / 4)))
+            .count() as i64;
+        for left in (0..=copies).rev() {
+            assert_eq!(pair.run(lend, Call::Lookup(&tag)), left);
+            assert_eq!(
+                pair.run(lend, Call::Release(&tag)),
+                i64::from(left > 0),
+                "{s:?}"
+            );
+        }
+        let again = |i: usize| candidates[..i].contains(&candidates[i]);
+        coinciding += u32::from((1..candidates.len()).any(again));
+        most = most.max(copies);
+    }
+    assert!(coinciding > 100, "{coinciding}");
+    assert!(most > 8, "{most}");
+    pair.done(&[]);
 }
 
 /// Each buffer in turn, and all of them, with nothing in it: as null, or by its place.
