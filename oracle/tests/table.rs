@@ -1,6 +1,5 @@
 //! The table held to the reference model, and its searches to a search written word for word.
 
-use oracle::fast;
 use oracle::index::{self, Answer, Settings, MASKED, PLAIN, RING};
 use oracle::model::{Class, Model};
 use oracle::requests::Mix;
@@ -13,6 +12,15 @@ fn cleared(settings: Settings) -> Vec<u16> {
     assert!(table.iter().all(|&cell| cell == 0));
     table
 }
+
+/// The fast lookup, where there is one, answers this.
+#[cfg(target_arch = "x86_64")]
+fn fast_answers(settings: &Settings, table: &[u16], tag: &[u8], answer: Answer<u32>) {
+    assert_eq!(oracle::fast::lookup(settings, table, tag), answer);
+}
+
+#[cfg(not(target_arch = "x86_64"))]
+fn fast_answers(_: &Settings, _: &[u16], _: &[u8], _: Answer<u32>) {}
 
 /// Scratch that held something before.
 fn dirty(kind: u32, words: usize, mix: &mut Mix) -> Vec<u32> {
@@ -156,7 +164,7 @@ impl Pair {
     fn lookup(&self, tag: &[u8]) {
         let answer = lookup(self.settings, &self.table, tag);
         assert_eq!(answer, self.model.lookup(tag));
-        assert_eq!(fast::lookup(&self.settings, &self.table, tag), answer);
+        fast_answers(&self.settings, &self.table, tag, answer);
     }
 
     fn compare(&self) {
@@ -346,7 +354,7 @@ fn refusals_in_order() {
         let other = if number == 6 { 7 } else { number };
         assert_eq!(release(settings, &mut table, &tag), Err(other));
         assert_eq!(lookup(settings, &table, &tag), Err(other));
-        assert_eq!(fast::lookup(&settings, &table, &tag), Err(other));
+        fast_answers(&settings, &table, &tag, Err(other));
         let seen = if number > 5 { 8 } else { number };
         assert_eq!(view_check(settings, &table, bucket), seen);
         assert!(view(settings, &table, bucket).is_empty());
@@ -379,7 +387,7 @@ fn copies_in_any_table() {
                 .filter(|&i| table[i] == fingerprint && candidates.contains(&(i as u32 / 4)))
                 .count() as u32;
             assert_eq!(lookup(settings, &table, &tag), Ok(expected));
-            assert_eq!(fast::lookup(&settings, &table, &tag), Ok(expected));
+            fast_answers(&settings, &table, &tag, Ok(expected));
             let set: HashSet<u32> = candidates.iter().copied().collect();
             coinciding += u32::from(set.len() < candidates.len());
             most = most.max(expected);

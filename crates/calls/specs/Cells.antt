@@ -29,7 +29,7 @@ firstHolding c v (i ∷ is) = let rest = firstHolding c v is in cond (eqb (cell 
 abbrev pub howMany : List ℕ → ℕ → List ℕ → ℕ
 howMany c v is = total (λ i. hit (cell c i) v) is
 
--- what the scan of a bucket reports: how many of its cells hold the fingerprint (document 02: the print), and the lowest of them
+-- what the scan of a bucket reports: how many of its cells hold the fingerprint, and the lowest of them
 pub record Scan : Type 0 where
   pub copies : ℕ
   pub lowest : Option ℕ
