@@ -41,13 +41,13 @@ pub(crate) fn check_cells(settings: Settings, table: &[u16]) -> Answer<()> {
 }
 
 /// The map and the fields that follow it.
-struct Head {
+pub(crate) struct Head {
     bytes: [u8; 7],
     length: usize,
 }
 
 impl Head {
-    fn of(settings: Settings) -> Self {
+    pub(crate) fn of(settings: Settings) -> Self {
         let mut head = Head {
             bytes: [0; 7],
             length: 1,
@@ -73,7 +73,7 @@ impl Head {
         self.length += field.len();
     }
 
-    fn as_slice(&self) -> &[u8] {
+    pub(crate) fn as_slice(&self) -> &[u8] {
         &self.bytes[..self.length]
     }
 }
@@ -119,7 +119,7 @@ fn take<const N: usize>(bytes: &mut &[u8]) -> Answer<[u8; N]> {
 }
 
 /// Takes the map and the fields.
-fn take_head(bytes: &mut &[u8]) -> Answer<Settings> {
+pub(crate) fn take_head(bytes: &mut &[u8]) -> Answer<Settings> {
     let [map] = take(bytes)?;
     if map >> 4 != 0 {
         return Err(12);
@@ -176,7 +176,7 @@ fn all_prints(word: u64, count: usize, width: u32) -> bool {
 }
 
 /// Checks the buckets and what follows them, in the order of the bytes.
-fn check_buckets(settings: Settings, bytes: &[u8]) -> Answer<()> {
+pub(crate) fn check_buckets(settings: Settings, bytes: &[u8]) -> Answer<()> {
     let mut rest = bytes;
     for _ in 0..settings.buckets {
         let [map] = take(&mut rest)?;

@@ -1,6 +1,7 @@
 //! A second implementation of the filter, written from the rules alone, that the proved one is
 //! compared with.
 
+pub mod branch_free;
 #[cfg(target_arch = "x86_64")]
 pub mod fast;
 pub mod fnv_strings;

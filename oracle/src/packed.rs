@@ -7,16 +7,16 @@ use crate::holdfile::{check_cells, check_table};
 use crate::index::{Answer, Settings};
 
 /// Cells in a bucket.
-const CELLS: usize = 4;
+pub(crate) const CELLS: usize = 4;
 /// Different leads.
 const LEADS: usize = 16;
 /// Ascending quadruples of leads.
-const ROWS: usize = 3_876;
+pub(crate) const ROWS: usize = 3_876;
 /// Bits of a row number.
-const ROW_BITS: usize = 12;
+pub(crate) const ROW_BITS: usize = 12;
 
 /// Every ascending quadruple of leads, in dictionary order.
-static QUADRUPLES: [[u16; CELLS]; ROWS] = {
+pub(crate) static QUADRUPLES: [[u16; CELLS]; ROWS] = {
     let mut all = [[0; CELLS]; ROWS];
     let mut row = 0;
     while row + 1 < ROWS {
@@ -111,12 +111,12 @@ fn split<const W: usize>(bits: u64) -> Answer<[u16; CELLS]> {
 }
 
 /// Bits of a bucket.
-const fn bucket_bits(width: usize) -> usize {
+pub(crate) const fn bucket_bits(width: usize) -> usize {
     CELLS * (width - 1)
 }
 
 /// How many bytes the form has.
-fn length(settings: Settings) -> usize {
+pub(crate) fn length(settings: Settings) -> usize {
     (bucket_bits(settings.width as usize) * settings.buckets as usize + 7) / 8
 }
 
@@ -141,8 +141,10 @@ macro_rules! at_width {
         }
     };
 }
+#[cfg(target_arch = "x86_64")]
+pub(crate) use at_width;
 
-fn pack<const W: usize>(table: &[u16], out: &mut [u8]) {
+pub(crate) fn pack<const W: usize>(table: &[u16], out: &mut [u8]) {
     let pairs = table.chunks_exact(2 * CELLS);
     let last = pairs.remainder();
     let mut places = out.chunks_exact_mut(W - 1);
@@ -204,7 +206,7 @@ fn unpack<const W: usize>(
     Ok(())
 }
 
-fn check_then_fill<const W: usize>(bytes: &[u8], table: &mut [u16]) -> Answer<usize> {
+pub(crate) fn check_then_fill<const W: usize>(bytes: &[u8], table: &mut [u16]) -> Answer<usize> {
     unpack::<W>(bytes, |cells| {
         if !ascending(cells) {
             return Err(19);

@@ -285,3 +285,321 @@ fn packed_forms() {
         assert!(seen[number] > 20, "{seen:?}");
     }
 }
+
+/// The fast and the branch-free forms held to the plain ones: every answer, and everything that was lent.
+#[cfg(target_arch = "x86_64")]
+mod fast_forms {
+    use super::{cells, rows, settings};
+    use oracle::fast;
+    use oracle::index::{Answer, Settings, MASKED, PLAIN, RING};
+    use oracle::requests::Mix;
+    use oracle::{branch_free, holdfile, packed};
+
+    /// How often each number was answered; 0 is for good calls.
+    type Seen = [usize; 21];
+
+    fn count<T>(seen: &mut Seen, answer: Answer<T>) {
+        seen[answer.err().unwrap_or(0) as usize] += 1;
+    }
+
+    fn assert_seen(seen: &Seen, numbers: &[usize], least: usize) {
+        for &number in numbers {
+            assert!(seen[number] >= least, "{number}: {seen:?}");
+        }
+    }
+
+    fn file_write(s: Settings, table: &[u16], out: &[u8], seen: &mut Seen) -> Vec<u8> {
+        let mut plain = out.to_vec();
+        let answer = holdfile::write(s, table, &mut plain);
+        for write in [branch_free::write, fast::holdfile::write] {
+            let mut other = out.to_vec();
+            assert_eq!(write(&s, table, &mut other), answer, "{s:?}");
+            assert!(other == plain, "{s:?} {answer:?}");
+        }
+        count(seen, answer);
+        plain.truncate(answer.unwrap_or(0));
+        plain
+    }
+
+    fn packed_write(s: Settings, table: &[u16], out: &[u8], seen: &mut Seen) -> Vec<u8> {
+        let (mut plain, mut other) = (out.to_vec(), out.to_vec());
+        let answer = packed::write(s, table, &mut plain);
+        assert_eq!(fast::packed::write(&s, table, &mut other), answer, "{s:?}");
+        assert!(other == plain, "{s:?} {answer:?}");
+        count(seen, answer);
+        plain.truncate(answer.unwrap_or(0));
+        plain
+    }
+
+    fn file_read(bytes: &[u8], cells: usize, seen: &mut Seen) {
+        let mut plain = vec![0xabcd; cells];
+        let answer = holdfile::read(bytes, &mut plain);
+        for read in [branch_free::read, fast::holdfile::read] {
+            let mut other = vec![0xabcd; cells];
+            assert_eq!(read(bytes, &mut other), answer);
+            assert!(other == plain, "{answer:?}");
+        }
+        count(seen, answer);
+    }
+
+    fn packed_read(s: Settings, bytes: &[u8], cells: usize, seen: &mut Seen) {
+        let (mut plain, mut other) = (vec![0xabcd; cells], vec![0xabcd; cells]);
+        let answer = packed::read(s, bytes, &mut plain);
+        assert_eq!(fast::packed::read(&s, bytes, &mut other), answer, "{s:?}");
+        assert!(other == plain, "{s:?} {answer:?}");
+        count(seen, answer);
+    }
+
+    /// Outputs without a byte, a byte too short, of the length, and longer, that held something.
+    fn rooms(length: usize, mix: &mut Mix) -> Vec<Vec<u8>> {
+        let some = mix.below(length as u64) as usize;
+        let more = length + 1 + mix.below(40) as usize;
+        [0, some, length - 1, length, length + 1, more]
+            .map(|room| mix.bytes(room))
+            .to_vec()
+    }
+
+    /// Bytes that were cut, changed in one place, or continued; the first are unchanged.
+    fn damaged(bytes: &[u8], mix: &mut Mix, times: usize) -> Vec<Vec<u8>> {
+        let n = bytes.len() as u64;
+        let mut all = vec![bytes.to_vec()];
+        for _ in 0..times {
+            let cut = bytes[..mix.below(n) as usize].to_vec();
+            let end = bytes[..bytes.len().saturating_sub(1 + mix.below(30) as usize)].to_vec();
+            let mut bit = bytes.to_vec();
+            bit[mix.below(n) as usize] ^= 1 << mix.below(8);
+            let mut byte = bytes.to_vec();
+            byte[mix.below(n) as usize] = mix.draw() as u8;
+            let mut low = bytes.to_vec();
+            low[mix.below(n) as usize] = mix.below(16) as u8;
+            let mut late = bytes.to_vec();
+            late[bytes.len() - 1 - mix.below(n.min(30)) as usize] = mix.draw() as u8;
+            let mut ones = bytes.to_vec();
+            let at = mix.below(n) as usize;
+            ones[at..(at + 3).min(bytes.len())].fill(0xff);
+            let longer = 1 + mix.below(30) as usize;
+            let junk = [bytes, &mix.bytes(longer)].concat();
+            let zeros = [bytes, &vec![0; longer]].concat();
+            all.extend([cut, end, bit, byte, low, late, ones, junk, zeros]);
+        }
+        all
+    }
+
+    /// One table through the four calls, with everything that can be wrong.
+    fn compare(s: Settings, table: &[u16], mix: &mut Mix, times: usize, seen: &mut [Seen; 4]) {
+        let [file_out, file_in, packed_out, packed_in] = seen;
+        let most = mix.bytes(7 + 9 * s.buckets as usize);
+        let file = file_write(s, table, &most, file_out);
+        let form = packed_write(s, table, &most, packed_out);
+        assert!(!file.is_empty() && !form.is_empty(), "{s:?}");
+        for out in rooms(file.len(), mix) {
+            file_write(s, table, &out, file_out);
+        }
+        for out in rooms(form.len(), mix) {
+            packed_write(s, table, &out, packed_out);
+        }
+        if s.width < 16 {
+            let mut wide = table.to_vec();
+            wide[mix.below(table.len() as u64) as usize] |=
+                1 << (s.width + mix.below(16 - u64::from(s.width)));
+            file_write(s, &wide, &most, file_out);
+            packed_write(s, &wide, &most, packed_out);
+            file_write(s, &wide, &[], file_out);
+            packed_write(s, &wide, &[], packed_out);
+        }
+        for bytes in damaged(&file, mix, times) {
+            file_read(&bytes, table.len(), file_in);
+        }
+        for bytes in damaged(&form, mix, times) {
+            packed_read(s, &bytes, table.len(), packed_in);
+        }
+        // Tables of a wrong length, and settings that are not good.
+        for lent in [0, table.len() - 1, table.len() + 1] {
+            let lent = vec![0; lent];
+            file_write(s, &lent, &most, file_out);
+            packed_write(s, &lent, &most, packed_out);
+            file_read(&file, lent.len(), file_in);
+            packed_read(s, &form, lent.len(), packed_in);
+        }
+        for bad in [
+            Settings { rule: 3, ..s },
+            Settings { width: 17, ..s },
+            Settings { buckets: 0, ..s },
+            Settings {
+                mask: s.buckets,
+                ..s
+            },
+        ] {
+            file_write(bad, table, &most, file_out);
+            packed_write(bad, table, &most, packed_out);
+            packed_read(bad, &form, table.len(), packed_in);
+        }
+    }
+
+    fn assert_all_seen([file_out, file_in, packed_out, packed_in]: &[Seen; 4], least: usize) {
+        assert_seen(file_out, &[0, 1, 2, 3, 4, 5, 16, 17], least);
+        assert_seen(packed_out, &[0, 1, 2, 3, 4, 5, 16, 17], least);
+        assert_seen(file_in, &[0, 5, 11, 13, 14, 15], least);
+        assert_seen(packed_in, &[0, 1, 2, 3, 4, 5, 11, 15, 18, 19], least);
+    }
+
+    #[test]
+    fn small_tables() {
+        let mut mix = Mix(23);
+        let mut seen = [[0; 21]; 4];
+        for _ in 0..4_000 {
+            let s = settings(&mut mix);
+            let table = cells(s, &mut mix);
+            compare(s, &table, &mut mix, 2, &mut seen);
+        }
+        assert_all_seen(&seen, 500);
+        // A filling bit, which only a table of one bucket has.
+        assert_seen(&seen[3], &[20], 20);
+    }
+
+    #[test]
+    fn each_width_and_bucket_count() {
+        let mut mix = Mix(24);
+        let mut seen = [[0; 21]; 4];
+        for width in 4..=16 {
+            for buckets in 1..=40 {
+                let s = match buckets % 2 {
+                    0 => Settings::new(RING, width, buckets, 0),
+                    _ => Settings::new(PLAIN, width, buckets.next_power_of_two(), 0),
+                };
+                for empty in 0..=4 {
+                    let table: Vec<u16> = (0..4 * s.buckets)
+                        .map(|_| u16::from(mix.below(4) >= empty) * mix.below(1 << width) as u16)
+                        .collect();
+                    compare(s, &table, &mut mix, 1, &mut seen);
+                }
+            }
+        }
+        assert_all_seen(&seen, 300);
+    }
+
+    #[test]
+    fn large_tables() {
+        let mut mix = Mix(25);
+        let mut seen = [[0; 21]; 4];
+        for width in 4..=16 {
+            for s in [
+                Settings::new(PLAIN, width, 4_096, 0),
+                Settings::new(RING, width, 1_022 + 2 * mix.below(2_000), 0),
+                Settings::new(MASKED, width, 2_048, mix.below(2_048)),
+            ] {
+                // From a table that is full, or nearly so, to an empty one, in which a part of the
+                // file has many more buckets than another.
+                for load in [100, 95, 50, 3, 0] {
+                    let uneven = mix.below(2) == 0;
+                    let n = 4 * s.buckets;
+                    let table: Vec<u16> = (0..n)
+                        .map(|i| match (uneven && i > n / 3) || mix.below(100) >= load {
+                            true => 0,
+                            false => 1 + mix.below((1 << width) - 1) as u16,
+                        })
+                        .collect();
+                    compare(s, &table, &mut mix, 4, &mut seen);
+                }
+            }
+        }
+        assert_all_seen(&seen, 100);
+    }
+
+    #[test]
+    fn largest_tables() {
+        let mut mix = Mix(26);
+        let mut seen = [[0; 21]; 4];
+        for s in [
+            Settings::new(PLAIN, 16, 65_536, 0),
+            Settings::new(PLAIN, 12, 65_536, 0),
+            Settings::new(RING, 13, 65_534, 0),
+            Settings::new(MASKED, 4, 65_536, 0xff),
+        ] {
+            for load in [100, 50, 0] {
+                let table: Vec<u16> = (0..4 * s.buckets)
+                    .map(|_| match mix.below(100) >= load {
+                        true => 0,
+                        false => 1 + mix.below((1 << s.width) - 1) as u16,
+                    })
+                    .collect();
+                compare(s, &table, &mut mix, 1, &mut seen);
+            }
+        }
+        for seen in seen {
+            assert!(seen[0] > 0);
+        }
+    }
+
+    /// Files in which a walk that starts beside the buckets stays beside them.
+    #[test]
+    fn walks_that_do_not_meet() {
+        let mut mix = Mix(27);
+        let mut seen = [0; 21];
+        for buckets in [1_024, 1_026, 2_000, 4_096] {
+            for cell in [0x000f, 0x0f0f, 0x0f01, 0x0100, 0x0007] {
+                let s = Settings::new(RING, 12, buckets, 0);
+                for filled in 1..16 {
+                    let table: Vec<u16> = (0..4 * buckets)
+                        .map(|i| cell * (filled >> (i % 4) & 1))
+                        .collect();
+                    let mut out = vec![0; 7 + 9 * buckets as usize];
+                    let length = holdfile::write(s, &table, &mut out).unwrap();
+                    for bytes in damaged(&out[..length], &mut mix, 1) {
+                        file_read(&bytes, table.len(), &mut seen);
+                    }
+                }
+            }
+        }
+        assert_seen(&seen, &[0], 300);
+        assert_seen(&seen, &[11, 13, 14, 15], 50);
+    }
+
+    /// Buckets with every four leads in every order.
+    #[test]
+    fn all_leads() {
+        let mut mix = Mix(28);
+        let mut seen = [0; 21];
+        for width in 4..=16 {
+            let s = Settings::new(PLAIN, width, 65_536, 0);
+            // Rests of few values make many equal cells.
+            let rests = 1 << (mix.below(2) * (width - 4));
+            let table: Vec<u16> = (0..4 * s.buckets)
+                .map(|i| {
+                    let lead = (i / 4) >> (4 * (i % 4)) & 15;
+                    (lead << (width - 4) | mix.below(rests)) as u16
+                })
+                .collect();
+            let out = vec![0; 1 << 19];
+            let form = packed_write(s, &table, &out, &mut seen);
+            packed_read(s, &form, table.len(), &mut seen);
+        }
+        assert_eq!(seen[0], 26);
+    }
+
+    /// Numbers that are no row, and buckets that descend somewhere, in every place.
+    #[test]
+    fn all_faults_of_a_packed_bucket() {
+        let mut mix = Mix(29);
+        let mut seen = [0; 21];
+        let rows = rows();
+        for width in 4..=16 {
+            let s = Settings::new(RING, width, 46, 0);
+            let rest = width as usize - 4;
+            let size = 4 * (width as usize - 1);
+            for number in 0..1 << 12 {
+                let at = mix.below(46) as usize;
+                let rests = mix.draw() & ((1 << (4 * rest)) - 1);
+                let bucket = number | u128::from(rests) << 12;
+                let mut form = vec![0; (size * 46 + 7) / 8];
+                for i in 0..size {
+                    let bit = size * at + i;
+                    form[bit / 8] |= ((bucket >> i & 1) as u8) << (bit % 8);
+                }
+                packed_read(s, &form, 4 * 46, &mut seen);
+            }
+        }
+        assert_eq!(seen[18], 13 * ((1 << 12) - rows.len()));
+        assert_seen(&seen, &[0, 19], 1_000);
+    }
+}

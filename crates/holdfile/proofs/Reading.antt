@@ -2,19 +2,21 @@
 -- Assumes nothing.
 use mathlib.Core.Path.{_≡_, refl, sym, ap, _∙_, subst}
 use mathlib.Core.Logic.{_≢_}
-use mathlib.Core.Bool.{Bool, true, false, cond, _||_, _&&_}
+use mathlib.Core.Bool.{Bool, true, false, not, cond, _||_, _&&_}
 use mathlib.Core.Option.{Option}
 use mathlib.Core.List.{List, [], _∷_, _++_, append-assoc, append-nil}
 use Prim.Native.Nat.{ℕ, zero, suc, _+_, _*_, _-_, _%_, _^_, _≤_, _<_}
 use native.Mathlib.Nat.{one-mul}
 use native.Mathlib.Numerals.{add-one}
 use native.Mathlib.Omega.{arith}
-use borrow.Author.Tests.{eq-eqb, ne-eqb, leb-true, leb-false}
+use borrow.Author.Tests.{not-true, le-leb, lt-leb, leb-true, leb-false}
 use lib.Dec.{eqb, leb}
-use borrow.Rule.Slice.PartMut.{postOf, putMid}
+use borrow.Rule.Slice.PartMut.{midOf, postOf, putMid, mid-len, same-len-mid}
 use lib.ListN.{length, take, drop, getD, set, length-append, drop-of-length-le}
 use lib.Pow.{shl-exact}
 use lib.Seq.{drop-cons, take-at, take-all, length-take-le}
+use Rattle.lemmas.proofs.Bools.{or-false-left, or-false-right}
+use Rattle.holdfile.proofs.Writing.{cond-le}
 use Rattle.refusals.specs.Checks.{firstMet, numberOf}
 use Rattle.refusals.specs.Outcomes.{refused, given, Done, done, Outcome, outcome, keeping}
 use Rattle.refusals.proofs.Cursor.{number-met}
@@ -22,10 +24,10 @@ use Rattle.index.specs.declared.Settings.{Settings}
 use Rattle.calls.specs.Calls.{tableChecks, Sound}
 use Rattle.calls.proofs.Laws.{table-check-laws}
 use Rattle.holdfile.specs.declared.Field.{Field}
-use Rattle.holdfile.specs.Internal.{fieldIs, pairFrom, cellFrom, PrintAt, FullAt, endOf, GivesCells, cellsRead}
+use Rattle.holdfile.specs.declared.Pass.{Pass}
+use Rattle.holdfile.specs.Internal.{fieldIs, passIs, pairFrom, cellFrom, bucketSize, GoodAt, endOf, GivesCells, cellsRead}
 use Rattle.file_form.specs.Bytes.{bit0, bit1, bit2, bit3}
 use Rattle.file_form.specs.Parsed.{Parsed, stop, next, andThen, refuseIf, checked, answerOf}
-use Rattle.file_form.specs.Fields.{field}
 use Rattle.file_form.proofs.Laws.{inFront, in-front-append}
 use Rattle.file_form.specs.Reader.{takeByte, takePair, readHeader, readCell, readCells, readBucket, readBuckets, leftOver, afterBuckets, afterHeader, readAll, readFile}
 
@@ -51,83 +53,14 @@ module _ (l : List ℕ) (at : ℕ) where
       go (x ∷ []) k = refl
       go (x ∷ y ∷ r) k = absurd (omega arith)
 
--- a whole that has come to a field: it goes on behind the field, or stops there
-pub record AtField {B : Type 0} (whole : Parsed B) (p : Parsed ℕ) (then : ℕ → List ℕ → Parsed B) : Type 0 where
-  pub is : whole ≡ andThen p then
-
-module _ {B : Type 0} {whole : Parsed B} {p : Parsed ℕ} {then : ℕ → List ℕ → Parsed B} (l : List ℕ) {f : Field} where
-  pub field-taken : {v at : ℕ} → f ≡ Field.Value v at → fieldIs l f ≡ p → AtField whole p then → whole ≡ then v (drop at l)
-  field-taken t q e = e .is ∙ ap (λ (x : Parsed ℕ). andThen x then) (sym q ∙ ap (fieldIs l) t)
-
-  pub field-ends : f ≡ Field.Short → fieldIs l f ≡ p → AtField whole p then → stop 11 ≡ whole
-  field-ends t q e = sym (e .is ∙ ap (λ (x : Parsed ℕ). andThen x then) (sym q ∙ ap (fieldIs l) t))
-
--- and to a test
-pub record AtTest {B : Type 0} (whole : Parsed B) (t : Bool) (n : ℕ) (then : Parsed B) : Type 0 where
-  pub is : whole ≡ refuseIf t n then
-
-module _ {B : Type 0} {whole then : Parsed B} {t : Bool} {n : ℕ} where
-  pub test-met : AtTest whole t n then → t ≡ true → stop n ≡ whole
-  test-met e h = sym (e .is ∙ ap (λ (x : Bool). refuseIf x n then) h)
-
-  pub test-passed : AtTest whole t n then → t ≡ false → whole ≡ then
-  test-passed e h = e .is ∙ ap (λ (x : Bool). refuseIf x n then) h
-
 -- ── a cell's test ──
 pub shifted : (w : ℕ) → w ≤ 16 → 1 * 2 ^ w % 2 ^ 32 ≡ 2 ^ w
 shifted w h = shl-exact {a = 1} 1 w 32 (omega arith) (omega arith) ∙ one-mul (2 ^ w)
 
-and-false : (a b : Bool) → a ≡ false → false ≡ (a && b)
-and-false true b e = absurd (let z : _≡_ {A = ℕ} 0 1 = cc in omega arith)
-and-false false b e = refl
-
-pub and-right : (a b : Bool) → a ≡ true → b ≡ (a && b)
-and-right true b e = refl
-and-right false b e = absurd (let z : _≡_ {A = ℕ} 0 1 = cc in omega arith)
-
-pub fit-unmarked : (t : Bool) (v w : ℕ) → t ≡ false → false ≡ (t && (eqb v 0 || leb (2 ^ w) v))
-fit-unmarked t v w e = and-false t (eqb v 0 || leb (2 ^ w) v) e
-
-pub unfit-zero : (t : Bool) (v w : ℕ) → t ≡ true → v ≡ 0 → true ≡ (t && (eqb v 0 || leb (2 ^ w) v))
-unfit-zero t v w e z = ap (λ (b : Bool). b || leb (2 ^ w) v) (sym (eq-eqb v 0 z)) ∙ and-right t (eqb v 0 || leb (2 ^ w) v) e
-
-pub unfit-wide : (t : Bool) (v w : ℕ) → t ≡ true → v ≢ 0 → leb (2 ^ w) v ≡ (t && (eqb v 0 || leb (2 ^ w) v))
-unfit-wide t v w e z = ap (λ (b : Bool). b || leb (2 ^ w) v) (sym (ne-eqb v 0 z)) ∙ and-right t (eqb v 0 || leb (2 ^ w) v) e
-
--- ── a bucket, one cell after the other ──
 abbrev pub unfitOf : ℕ → Bool → ℕ → Bool
 unfitOf w t v = t && (eqb v 0 || leb (2 ^ w) v)
 
-cell-by-field : (w : ℕ) (t : Bool) (l : List ℕ) → readCell w t l ≡ andThen (field t 0 takePair l) (λ v rest. refuseIf (unfitOf w t v) 14 (next v rest))
-cell-by-field w true l = refl
-cell-by-field w false l = refl
-
--- a whole that has come to a cell: its bytes end early, it does not fit, or it is read
-pub record AtCell {B : Type 0} (whole : Parsed B) (w : ℕ) (t : Bool) (bytes : List ℕ) (then : ℕ → List ℕ → Parsed B) : Type 0 where
-  pub is : whole ≡ andThen (readCell w t bytes) then
-
-by-field : {B : Type 0} {whole : Parsed B} {w : ℕ} {t : Bool} {bytes : List ℕ} {then : ℕ → List ℕ → Parsed B} → AtCell whole w t bytes then
-    → AtField whole (field t 0 takePair bytes) (λ v rest. andThen (refuseIf (unfitOf w t v) 14 (next v rest)) then)
-by-field {B} {whole} {w} {t} {bytes} {then} e = record { is = e .is ∙ ap (λ (p : Parsed ℕ). andThen p then) (cell-by-field w t bytes) ∙ regroup (field t 0 takePair bytes) }
-  where
-    regroup : (p : Parsed ℕ) → andThen (andThen p (λ v rest. refuseIf (unfitOf w t v) 14 (next v rest))) then ≡ andThen p (λ v rest. andThen (refuseIf (unfitOf w t v) 14 (next v rest)) then)
-    regroup (stop n) = refl
-    regroup (next v rest) = refl
-
-module _ {B : Type 0} {whole : Parsed B} {w : ℕ} {t : Bool} {bytes : List ℕ} {then : ℕ → List ℕ → Parsed B} (l : List ℕ) {f : Field} where
-  pub cell-ends : f ≡ Field.Short → fieldIs l f ≡ field t 0 takePair bytes → AtCell whole w t bytes then → stop 11 ≡ whole
-  cell-ends s q e = field-ends l s q (by-field e)
-
-  module _ {v at : ℕ} {u : Bool} (s : f ≡ Field.Value v at) (q : fieldIs l f ≡ field t 0 takePair bytes) (k : u ≡ unfitOf w t v) (e : AtCell whole w t bytes then) where
-    tested : (b : Bool) → u ≡ b → whole ≡ andThen (refuseIf b 14 (next v (drop at l))) then
-    tested b h = field-taken l s q (by-field e) ∙ ap (λ (x : Bool). andThen (refuseIf x 14 (next v (drop at l))) then) (sym k ∙ h)
-
-    pub cell-unfit : u ≡ true → stop 14 ≡ whole
-    cell-unfit h = sym (tested true h)
-
-    pub cell-taken : u ≡ false → whole ≡ then v (drop at l)
-    cell-taken h = tested false h
-
+-- ── a bucket, one cell after the other ──
 -- what is left of a bucket: the test of its byte, and what stands behind each cell
 abbrev pub behind3 : ℕ → ℕ → ℕ → ℕ → List ℕ → Parsed (List ℕ)
 behind3 a b c d rest = next (a ∷ b ∷ c ∷ d ∷ []) rest
@@ -151,34 +84,151 @@ pub bucket-opened : (w : ℕ) (l : List ℕ) → readBucket w l ≡ andThen (tak
 unfolding readBucket readCells
 bucket-opened w l = refl
 
--- ── a bucket of four fingerprints ──
-pub print-taken : (w : ℕ) (l : List ℕ) (at v : ℕ) → at + 2 ≤ length l → v ≡ pairFrom l at → unfitOf w true v ≡ false → PrintAt w l at true
-print-taken w l at v h e u =
+-- ── where a bucket ends: the ends of its cells, one after the other ──
+abbrev pub ends3 : ℕ → ℕ → List ℕ → Parsed (Unit {0})
+ends3 w m rest = endOf (readCell w (bit3 m) rest)
+
+abbrev pub ends2 : ℕ → ℕ → List ℕ → Parsed (Unit {0})
+ends2 w m rest = andThen (endOf (readCell w (bit2 m) rest)) (λ u more. ends3 w m more)
+
+abbrev pub ends1 : ℕ → ℕ → List ℕ → Parsed (Unit {0})
+ends1 w m rest = andThen (endOf (readCell w (bit1 m) rest)) (λ u more. ends2 w m more)
+
+abbrev pub ends0 : ℕ → ℕ → List ℕ → Parsed (Unit {0})
+ends0 w m rest = andThen (endOf (readCell w (bit0 m) rest)) (λ u more. ends1 w m more)
+
+end-then : {A B : Type 0} (p : Parsed A) (f : A → List ℕ → Parsed B) (g : List ℕ → Parsed (Unit {0})) → ((a : A) (rest : List ℕ) → endOf (f a rest) ≡ g rest)
+    → endOf (andThen p f) ≡ andThen (endOf p) (λ u rest. g rest)
+end-then (stop n) f g h = refl
+end-then (next a rest) f g h = h a rest
+
+cells-end : (w m : ℕ) (l : List ℕ) → endOf (allCells w m l) ≡ ends0 w m l
+cells-end w m l =
+    end-then (readCell w (bit0 m) l) (behind0 w m) (ends1 w m) (λ a r1.
+    end-then (readCell w (bit1 m) r1) (behind1 w m a) (ends2 w m) (λ b r2.
+    end-then (readCell w (bit2 m) r2) (behind2 w m a b) (ends3 w m) (λ c r3.
+    last (readCell w (bit3 m) r3) (behind3 a b c) (λ d rest. refl))))
+  where
+    last : (p : Parsed ℕ) (f : ℕ → List ℕ → Parsed (List ℕ)) → ((d : ℕ) (rest : List ℕ) → endOf (f d rest) ≡ next tt rest) → endOf (andThen p f) ≡ endOf p
+    last (stop n) f h = refl
+    last (next d rest) f h = h d rest
+
+-- a bucket whose byte was asked for: it is not there, marks more than four cells, or the cells follow
+module _ (w : ℕ) (l : List ℕ) (at : ℕ) {f : Field} (q : fieldIs l f ≡ takeByte (drop at l)) where
+  opened : (g : Field) → f ≡ g → readBucket w (drop at l) ≡ andThen (fieldIs l g) (behindMarks w)
+  opened g e = bucket-opened w (drop at l) ∙ ap (λ (p : Parsed ℕ). andThen p (behindMarks w)) (sym q ∙ ap (fieldIs l) e)
+
+  pub no-bucket : f ≡ Field.Short → stop 11 ≡ endOf (readBucket w (drop at l))
+  no-bucket e = sym (ap endOf (opened Field.Short e))
+
+  module _ {m to : ℕ} (e : f ≡ Field.Value m to) where
+    tested : (b : Bool) → leb 16 m ≡ b → readBucket w (drop at l) ≡ refuseIf b 13 (allCells w m (drop to l))
+    tested b h = opened (Field.Value m to) e ∙ ap (λ (c : Bool). refuseIf c 13 (allCells w m (drop to l))) h
+
+    pub high-marks : 16 ≤ m → stop 13 ≡ endOf (readBucket w (drop at l))
+    high-marks h = sym (ap endOf (tested true (le-leb 16 m h)))
+
+    pub low-marks : m < 16 → endOf (readBucket w (drop at l)) ≡ ends0 w m (drop to l)
+    low-marks h = ap endOf (tested false (lt-leb 16 m h)) ∙ cells-end w m (drop to l)
+
+-- and a marked cell whose bytes were asked for
+module _ (w : ℕ) (l : List ℕ) (at : ℕ) {f : Field} (q : fieldIs l f ≡ takePair (drop at l)) where
+  cut : (g : Field) → f ≡ g → endOf (readCell w true (drop at l)) ≡ endOf (andThen (fieldIs l g) (λ x rest. refuseIf (eqb x 0 || leb (2 ^ w) x) 14 (next x rest)))
+  cut g e = ap (λ (p : Parsed ℕ). endOf (andThen p (λ x rest. refuseIf (eqb x 0 || leb (2 ^ w) x) 14 (next x rest)))) (sym q ∙ ap (fieldIs l) e)
+
+  pub cell-short : f ≡ Field.Short → stop 11 ≡ endOf (readCell w true (drop at l))
+  cell-short e = sym (cut Field.Short e)
+
+  pub cell-whole : {v to : ℕ} → f ≡ Field.Value v to → (b : Bool) → unfitOf w true v ≡ b → endOf (readCell w true (drop at l)) ≡ endOf (refuseIf b 14 (next v (drop to l)))
+  cell-whole {v} {to} e b h = cut (Field.Value v to) e ∙ ap (λ (c : Bool). endOf (refuseIf c 14 (next v (drop to l)))) h
+
+-- a whole that has come to a cell: it stops there, or goes on behind it
+pub record AtBucketCell (whole p : Parsed (Unit {0})) (then : List ℕ → Parsed (Unit {0})) : Type 0 where
+  pub is : whole ≡ andThen p (λ u rest. then rest)
+
+module _ {whole p : Parsed (Unit {0})} {then : List ℕ → Parsed (Unit {0})} (l : List ℕ) {f : Pass} (k : AtBucketCell whole p then) (q : passIs l f ≡ p) where
+  pub cell-stops : {n : ℕ} → f ≡ Pass.Refused n → passIs l f ≡ whole
+  cell-stops {n} e = ap (passIs l) e ∙ sym (k .is ∙ ap (λ (x : Parsed (Unit {0})). andThen x (λ u rest. then rest)) (sym q ∙ ap (passIs l) e))
+
+  pub cell-goes-on : {at : ℕ} → f ≡ Pass.End at → whole ≡ then (drop at l)
+  cell-goes-on e = k .is ∙ ap (λ (x : Parsed (Unit {0})). andThen x (λ u rest. then rest)) (sym q ∙ ap (passIs l) e)
+
+-- ── a bucket by its marks: where its cells stand, and what they are ──
+abbrev pub second : ℕ → ℕ → ℕ
+second at m = at + 1 + cond (bit0 m) 2 0
+
+abbrev pub third : ℕ → ℕ → ℕ
+third at m = second at m + cond (bit1 m) 2 0
+
+abbrev pub fourth : ℕ → ℕ → ℕ
+fourth at m = third at m + cond (bit2 m) 2 0
+
+abbrev pub cellsOf : List ℕ → ℕ → ℕ → List ℕ
+cellsOf l at m = cellFrom l (at + 1) (bit0 m) ∷ cellFrom l (second at m) (bit1 m) ∷ cellFrom l (third at m) (bit2 m) ∷ cellFrom l (fourth at m) (bit3 m) ∷ []
+
+-- as the code goes from one to the next
+pub places-are : (at m p q r : ℕ) → p ≡ cond (bit0 m) 2 0 → q ≡ cond (bit1 m) 2 0 → r ≡ cond (bit2 m) 2 0
+    → (at + 1 + p ≡ second at m) × (at + 1 + p + q ≡ third at m) × (at + 1 + p + q + r ≡ fourth at m)
+places-are at m p q r e f g = (omega arith, omega arith, omega arith)
+
+pub places-end : (at m : ℕ) → fourth at m + cond (bit3 m) 2 0 ≡ at + bucketSize m
+places-end at m = omega arith
+
+pub size-few : (m : ℕ) → bucketSize m ≤ 9
+size-few m = omega (arith, cond-le (bit0 m) 2, cond-le (bit1 m) 2, cond-le (bit2 m) 2, cond-le (bit3 m) 2)
+
+-- a cell that stands in the bytes and fits, or is not marked
+cell-known : {B : Type 0} (w : ℕ) (l : List ℕ) (t : Bool) (at : ℕ) (then : ℕ → List ℕ → Parsed B) → at + 2 ≤ length l → unfitOf w t (pairFrom l at) ≡ false
+    → andThen (readCell w t (drop at l)) then ≡ then (cellFrom l at t) (drop (at + cond t 2 0) l)
+cell-known w l true at then h u =
     let h1 : at + 1 < length l = omega arith in
     let n : at + 1 + 1 ≡ at + 2 = omega arith in
-    let fits : unfitOf w true (pairFrom l at) ≡ false = ap (unfitOf w true) (sym e) ∙ u in
-    ap (λ (p : Parsed ℕ). andThen p (λ x rest. refuseIf (eqb x 0 || leb (2 ^ w) x) 14 (next x rest))) (take-two l at h1)
-    ∙ ap (λ (b : Bool). refuseIf b 14 (next (pairFrom l at) (drop (at + 1 + 1) l))) fits
-    ∙ ap (λ (k : ℕ). next (pairFrom l at) (drop k l)) n
+    ap (λ (p : Parsed ℕ). andThen (andThen p (λ x rest. refuseIf (eqb x 0 || leb (2 ^ w) x) 14 (next x rest))) then) (take-two l at h1)
+    ∙ ap (λ (b : Bool). andThen (refuseIf b 14 (next (pairFrom l at) (drop (at + 1 + 1) l))) then) u
+    ∙ ap (λ (k : ℕ). then (pairFrom l at) (drop k l)) n
+cell-known w l false at then h u =
+    let n : at ≡ at + 0 = omega arith in
+    ap (λ (k : ℕ). then 0 (drop k l)) n
 
-print-then : {B : Type 0} (w : ℕ) (l : List ℕ) (at to : ℕ) (then : ℕ → List ℕ → Parsed B) → PrintAt w l at true → at + 2 ≡ to
-    → andThen (readCell w true (drop at l)) then ≡ then (pairFrom l at) (drop to l)
-print-then w l at to then p e = ap (λ (q : Parsed ℕ). andThen q then) p ∙ ap (λ (k : ℕ). then (pairFrom l at) (drop k l)) e
+-- where nine bytes are left, every test may be made, whatever is marked
+module _ (w : ℕ) (l : List ℕ) (at : ℕ) (room : at + 9 ≤ length l) where
+  abbrev m : ℕ
+  m = getD l at 0
 
-pub full-taken : (w : ℕ) (l : List ℕ) (at : ℕ) → at + 9 ≤ length l → getD l at 0 ≡ 15 → PrintAt w l (at + 1) true → PrintAt w l (at + 3) true → PrintAt w l (at + 5) true
-    → (r : Bool) → PrintAt w l (at + 7) r → FullAt w l at r
-full-taken w l at h m a b c false d = tt
-full-taken w l at h m a b c true d = (
-  h,
-  ap endOf
-      (bucket-opened w (drop at l)
+  abbrev u0 : Bool
+  u0 = unfitOf w (bit0 m) (pairFrom l (at + 1))
+
+  abbrev u1 : Bool
+  u1 = unfitOf w (bit1 m) (pairFrom l (second at m))
+
+  abbrev u2 : Bool
+  u2 = unfitOf w (bit2 m) (pairFrom l (third at m))
+
+  abbrev u3 : Bool
+  u3 = unfitOf w (bit3 m) (pairFrom l (fourth at m))
+
+  good-bucket : leb 16 m ≡ false → u0 ≡ false → u1 ≡ false → u2 ≡ false → u3 ≡ false → readBucket w (drop at l) ≡ next (cellsOf l at m) (drop (at + bucketSize m) l)
+  good-bucket low e0 e1 e2 e3 =
+      let b0 = cond-le (bit0 m) 2 in
+      let b1 = cond-le (bit1 m) 2 in
+      let b2 = cond-le (bit2 m) 2 in
+      bucket-opened w (drop at l)
       ∙ ap (λ (p : Parsed ℕ). andThen p (behindMarks w)) (take-byte l at (omega arith))
-      ∙ ap (λ (k : ℕ). behindMarks w k (drop (at + 1) l)) m
-      ∙ print-then w l (at + 1) (at + 3) (behind0 w 15) a (omega arith)
-      ∙ print-then w l (at + 3) (at + 5) (behind1 w 15 (pairFrom l (at + 1))) b (omega arith)
-      ∙ print-then w l (at + 5) (at + 7) (behind2 w 15 (pairFrom l (at + 1)) (pairFrom l (at + 3))) c (omega arith)
-      ∙ print-then w l (at + 7) (at + 9) (behind3 (pairFrom l (at + 1)) (pairFrom l (at + 3)) (pairFrom l (at + 5))) d (omega arith)),
-)
+      ∙ ap (λ (c : Bool). refuseIf c 13 (allCells w m (drop (at + 1) l))) low
+      ∙ cell-known w l (bit0 m) (at + 1) (behind0 w m) (omega arith) e0
+      ∙ cell-known w l (bit1 m) (second at m) (behind1 w m (cellFrom l (at + 1) (bit0 m))) (omega arith) e1
+      ∙ cell-known w l (bit2 m) (third at m) (behind2 w m (cellFrom l (at + 1) (bit0 m)) (cellFrom l (second at m) (bit1 m))) (omega arith) e2
+      ∙ cell-known w l (bit3 m) (fourth at m) (behind3 (cellFrom l (at + 1) (bit0 m)) (cellFrom l (second at m) (bit1 m)) (cellFrom l (third at m) (bit2 m))) (omega arith) e3
+      ∙ ap (λ (k : ℕ). next (cellsOf l at m) (drop k l)) (places-end at m)
+
+  pub good-said : (r : Bool) → r ≡ not ((leb 16 m || (u0 || u1)) || (u2 || u3)) → GoodAt w l at r
+  good-said false e = tt
+  good-said true e =
+      let none : ((leb 16 m || (u0 || u1)) || (u2 || u3)) ≡ false = not-true ((leb 16 m || (u0 || u1)) || (u2 || u3)) (sym e) in
+      let low = or-false-left (leb 16 m || (u0 || u1)) (u2 || u3) none in
+      let high = or-false-right (leb 16 m || (u0 || u1)) (u2 || u3) none in
+      let firsts = or-false-right (leb 16 m) (u0 || u1) low in
+      ap endOf (good-bucket (or-false-left (leb 16 m) (u0 || u1) low) (or-false-left u0 u1 firsts) (or-false-right u0 u1 firsts) (or-false-left u2 u3 high) (or-false-right u2 u3 high))
 
 -- ── a bucket that has passed ──
 stops-never : {p : Parsed (List ℕ)} {n : ℕ} → GivesCells p → p ≡ stop n → ⊥
@@ -255,6 +305,41 @@ module _ (w : ℕ) (l : List ℕ) (at : ℕ) (h : GivesCells (readBucket w (drop
       low true q = absurd (stops-never h (opened true q))
       low false q = opened false q
 
+-- the places are near enough to read two bytes at each, where nine are left
+pub pair-room : (ahead : Bool) (n at p : ℕ) → at + cond ahead 9 0 ≤ n → p ≤ n → p ≤ at + 7 → p + cond ahead 2 0 ≤ n
+pair-room true n at p h k near = omega arith
+pair-room false n at p h k near = omega arith
+
+pub places-near : (at m : ℕ) → (second at m ≤ at + 3) × (third at m ≤ at + 5) × (fourth at m ≤ at + 7)
+places-near at m =
+    let b0 = cond-le (bit0 m) 2 in
+    let b1 = cond-le (bit1 m) 2 in
+    let b2 = cond-le (bit2 m) 2 in
+    (omega arith, omega arith, omega arith)
+
+-- the whole bucket, and where its cells stand
+pub record Passed (w : ℕ) (l : List ℕ) (at : ℕ) : Type 0 where
+  pub is : readBucket w (drop at l) ≡ next (cellsOf l at (getD l at 0)) (drop (at + bucketSize (getD l at 0)) l)
+  pub inside-second : second at (getD l at 0) ≤ length l
+  pub inside-third : third at (getD l at 0) ≤ length l
+  pub inside-fourth : fourth at (getD l at 0) ≤ length l
+  pub inside : at + bucketSize (getD l at 0) ≤ length l
+
+pub bucket-passed : (w : ℕ) (l : List ℕ) (at : ℕ) → GivesCells (readBucket w (drop at l)) → Passed w l at
+bucket-passed w l at h =
+    let m : ℕ = getD l at 0 in
+    let a = come-first w l at h m refl in
+    let b = come-next a {u = bit1 m} {more = behind1 w m (cellFrom l (at + 1) (bit0 m))} {end = second at m} refl (λ rest. refl) in
+    let c = come-next b {u = bit2 m} {more = behind2 w m (cellFrom l (at + 1) (bit0 m)) (cellFrom l (second at m) (bit1 m))} {end = third at m} refl (λ rest. refl) in
+    let d = come-next c {u = bit3 m} {more = behind3 (cellFrom l (at + 1) (bit0 m)) (cellFrom l (second at m) (bit1 m)) (cellFrom l (third at m) (bit2 m))} {end = fourth at m} refl (λ rest. refl) in
+    record {
+      is = come-on d {end = fourth at m + cond (bit3 m) 2 0} refl ∙ ap (λ (k : ℕ). next (cellsOf l at m) (drop k l)) (places-end at m);
+      inside-second = b .within;
+      inside-third = c .within;
+      inside-fourth = d .within;
+      inside = omega (arith, come-room d);
+    }
+
 -- ── buckets ──
 -- a part of four cells put into the table: what stands up to its end
 take-part : (t part : List ℕ) (i : ℕ) → i + 4 ≤ length t → length part ≡ 4 → take (i + 4) (putMid i (i + 4 - i) t part) ≡ take i t ++ part
@@ -305,15 +390,15 @@ module _ (w n : ℕ) (l : List ℕ) (h : 0 < n) where
           ap (λ (x : List ℕ). endOf (readBuckets w (n - 1) x)) same ∙ sym (ap endOf (bucket-then four end q) ∙ end-in-front four (readBuckets w (n - 1) end))
 
   -- the second pass meets no refusal
-  pub passes-first : (front : List ℕ) → GivesCells (inFront front (readBuckets w n l)) → GivesCells (readBucket w l)
-  passes-first front p = go (readBucket w l) refl
+  pub passes-first : GivesCells (readBuckets w n l) → GivesCells (readBucket w l)
+  passes-first p = go (readBucket w l) refl
     where
       go : (r : Parsed (List ℕ)) → readBucket w l ≡ r → GivesCells r
-      go (stop k) e = subst (λ (x : Parsed (List ℕ)). GivesCells (inFront front x)) (bucket-stops k e) p
+      go (stop k) e = subst GivesCells (bucket-stops k e) p
       go (next four rest) e = tt
 
   -- and has one bucket more in the table
-  pub store-turn : (at i end : ℕ) (bytes before part : List ℕ) → l ≡ drop at bytes → i + 4 ≤ length before → length part ≡ 4
+  store-turn : (at i end : ℕ) (bytes before part : List ℕ) → l ≡ drop at bytes → i + 4 ≤ length before → length part ≡ 4
       → readBucket w (drop at bytes) ≡ next part (drop end bytes)
       → inFront (take (i + 4) (putMid i (i + 4 - i) before part)) (readBuckets w (n - 1) (drop end bytes)) ≡ inFront (take i before) (readBuckets w n l)
   store-turn at i end bytes before part e h four k =
@@ -321,23 +406,86 @@ module _ (w n : ℕ) (l : List ℕ) (h : 0 < n) where
       ∙ in-front-append (take i before) part (readBuckets w (n - 1) (drop end bytes))
       ∙ ap (inFront (take i before)) (sym (bucket-then part (drop end bytes) (ap (readBucket w) e ∙ k)))
 
+gives-behind : (f : List ℕ) (p : Parsed (List ℕ)) → GivesCells (inFront f p) → GivesCells p
+gives-behind f (stop n) h = h
+gives-behind f (next c end) h = tt
+
+-- what is left to read of a whole that passes
+passes-rest : (f : List ℕ) (p whole : Parsed (List ℕ)) → inFront f p ≡ whole → GivesCells whole → GivesCells p
+passes-rest f p whole e h = gives-behind f p (subst GivesCells (sym e) h)
+
+-- each bucket has a byte at least
+buckets-room : (w n : ℕ) (l : List ℕ) (at : ℕ) → at ≤ length l → GivesCells (readBuckets w n (drop at l)) → at + n ≤ length l
+buckets-room w zero l at h p = omega arith
+buckets-room w (suc n) l at h p =
+    let one : 0 < suc n = omega arith in
+    let less : suc n - 1 ≡ n = omega arith in
+    let k = bucket-passed w l at (passes-first w (suc n) (drop at l) one p) in
+    let behind = at + bucketSize (getD l at 0) in
+    let rest : GivesCells (readBuckets w (suc n - 1) (drop behind l)) =
+    gives-behind (cellsOf l at (getD l at 0)) (readBuckets w (suc n - 1) (drop behind l)) (subst GivesCells (bucket-then w (suc n) (drop at l) one _ _ (k .is)) p) in
+    omega (arith, buckets-room w n l behind (k .inside) (subst (λ (j : ℕ). GivesCells (readBuckets w j (drop behind l))) less rest))
+
 pub none-more : (w : ℕ) (l : List ℕ) → readBuckets w 0 l ≡ next [] l
 unfolding readBuckets
 none-more w l = refl
 
-pub store-end : (w left i : ℕ) (l table : List ℕ) (all : Parsed (List ℕ)) → left ≤ 0 → inFront (take i table) (readBuckets w left l) ≡ all → i + 4 * left ≡ length table → table ≡ cellsRead all
+store-end : (w left i : ℕ) (l table : List ℕ) (all : Parsed (List ℕ)) → left ≤ 0 → inFront (take i table) (readBuckets w left l) ≡ all → i + 4 * left ≡ length table → table ≡ cellsRead all
 store-end w left i l table all h e k =
     let z : left ≡ 0 = omega arith in
     sym (ap cellsRead (sym e ∙ ap (inFront (take i table)) (ap (λ (n : ℕ). readBuckets w n l) z ∙ none-more w l)) ∙ append-nil (take i table) ∙ take-all i table (omega arith))
 
+pub four-same : {a b c d x y z w : ℕ} → a ≡ x → b ≡ y → c ≡ z → d ≡ w → a ∷ b ∷ c ∷ d ∷ [] ≡ x ∷ y ∷ z ∷ w ∷ []
+four-same e f g h = rw (e, f, g, h) refl
+
+-- ── the second pass ──
+-- the table so far, in front of what is left to read of a whole that passes
+pub record Upto (bytes : List ℕ) (whole : Parsed (List ℕ)) (w : ℕ) (table : List ℕ) (at i left : ℕ) : Type 0 where
+  pub is : inFront (take i table) (readBuckets w left (drop at bytes)) ≡ whole
+  pub size : i + 4 * left ≡ length table
+  pub passes : GivesCells whole
+
+module _ {bytes : List ℕ} {whole : Parsed (List ℕ)} {w : ℕ} {table : List ℕ} {at i left : ℕ} (U : Upto bytes whole w table at i left) where
+  module _ (more : 0 < left) where
+    gives : GivesCells (readBuckets w left (drop at bytes))
+    gives = passes-rest (take i table) (readBuckets w left (drop at bytes)) whole (U .is) (U .passes)
+
+    -- a bucket that passes, within the bytes, and eight bytes behind it where as many buckets are left
+    pub upto-passes : GivesCells (readBucket w (drop at bytes))
+    upto-passes = passes-first w left (drop at bytes) more gives
+
+    pub upto-inside : at < length bytes
+    upto-inside = marks-in w bytes at upto-passes
+
+    pub upto-ahead : at + left ≤ length bytes
+    upto-ahead = buckets-room w left bytes at (omega (arith, upto-inside)) gives
+
+    pub upto-room : i + 4 ≤ length table
+    upto-room = omega (arith, U .size)
+
+    -- the part of its four cells
+    pub upto-part : length (midOf i (i + 4 - i) table) ≡ 4
+    upto-part = mid-len i (i + 4) table upto-room ∙ omega arith
+
+    pub upto-more : (part : List ℕ) (end : ℕ) → length part ≡ length (midOf i (i + 4 - i) table) → readBucket w (drop at bytes) ≡ next part (drop end bytes)
+        → Upto bytes whole w (putMid i (i + 4 - i) table part) end (i + 4) (left - 1)
+    upto-more part end long k = record {
+      is = store-turn w left (drop at bytes) more at i end bytes table part refl upto-room (long ∙ upto-part) k ∙ U .is;
+      size = omega (arith, U .size, same-len-mid i (i + 4 - i) table part long);
+      passes = U .passes;
+    }
+
+  pub upto-end : left ≤ 0 → table ≡ cellsRead whole
+  upto-end h = store-end w left i (drop at bytes) table whole h (U .is) (U .size)
+
 -- the four cells of a part, stored one after the other
-pub stored : (t : List ℕ) (a b c d : ℕ) → length t ≡ 4 → (t1 t2 t3 t4 : List ℕ) → t1 ≡ set t 0 a → t2 ≡ set t1 1 b → t3 ≡ set t2 2 c → t4 ≡ set t3 3 d → t4 ≡ a ∷ b ∷ c ∷ d ∷ []
-stored [] a b c d h t1 t2 t3 t4 e1 e2 e3 e4 = absurd (omega arith)
-stored (x ∷ []) a b c d h t1 t2 t3 t4 e1 e2 e3 e4 = absurd (omega arith)
-stored (x ∷ y ∷ []) a b c d h t1 t2 t3 t4 e1 e2 e3 e4 = absurd (omega arith)
-stored (x ∷ y ∷ z ∷ []) a b c d h t1 t2 t3 t4 e1 e2 e3 e4 = absurd (omega arith)
-stored (x ∷ y ∷ z ∷ w ∷ []) a b c d h t1 t2 t3 t4 e1 e2 e3 e4 = rw (e4, e3, e2, e1) refl
-stored (x ∷ y ∷ z ∷ w ∷ v ∷ t) a b c d h t1 t2 t3 t4 e1 e2 e3 e4 = absurd (omega arith)
+pub stored : (t : List ℕ) (a b c d : ℕ) → length t ≡ 4 → set (set (set (set t 0 a) 1 b) 2 c) 3 d ≡ a ∷ b ∷ c ∷ d ∷ []
+stored [] a b c d h = absurd (omega arith)
+stored (x ∷ []) a b c d h = absurd (omega arith)
+stored (x ∷ y ∷ []) a b c d h = absurd (omega arith)
+stored (x ∷ y ∷ z ∷ []) a b c d h = absurd (omega arith)
+stored (x ∷ y ∷ z ∷ w ∷ []) a b c d h = refl
+stored (x ∷ y ∷ z ∷ w ∷ v ∷ t) a b c d h = absurd (omega arith)
 
 -- ── what stands behind the header ──
 pub passed-of : (p : Parsed (List ℕ)) (rest : List ℕ) → next tt rest ≡ endOf p → GivesCells p

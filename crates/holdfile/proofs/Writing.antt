@@ -1,62 +1,54 @@
--- The writer's steps: parts that may be left out, the sizes that the first pass adds up, and the buckets in a row.
+-- The writer's steps: cells that may be left out, the sizes that the first pass adds up, and the buckets in a row.
 -- Assumes nothing.
 use mathlib.Core.Path.{_≡_, refl, sym, ap, ap₂, _∙_}
 use mathlib.Core.Bool.{Bool, true, false, cond, _||_}
 use mathlib.Core.List.{List, [], _∷_, _++_}
-use Prim.Native.Nat.{ℕ, zero, suc, _+_, _*_, _-_, _^_, _≤_, _<_}
+use Prim.Native.Nat.{ℕ, zero, suc, _+_, _*_, _/_, _%_, _^_, _≤_, _<_}
 use native.Mathlib.Numerals.{add-one}
 use native.Mathlib.Omega.{arith}
+use mir.Val.{boolByte}
 use borrow.Author.Tests.{le-leb, leb-true, leb-false}
 use lib.Dec.{leb}
-use lib.ListN.{length, drop, getD, length-append, drop-of-length-le}
+use lib.ListN.{length, drop, getD, set, length-append, drop-of-length-le}
 use lib.Seq.{sets, sets-eq, drop-cons}
-use Rattle.lemmas.specs.Stores.{Put}
-use Rattle.lemmas.proofs.Stores.{sets-append, put-nothing}
+use Rattle.lemmas.specs.Stores.{Put, PutBefore}
+use Rattle.lemmas.proofs.Stores.{sets-append, put-nothing, put-before, stored-over}
 use Rattle.refusals.specs.Outcomes.{refused, given, outcome}
 use Rattle.index.specs.declared.Settings.{Settings}
 use Rattle.index.proofs.Laws.{laws}
 use Rattle.calls.specs.Calls.{Sound}
-use Rattle.file_form.specs.Bytes.{where?}
+use Rattle.file_form.specs.Bytes.{pair, where?}
 use Rattle.calls.specs.WrittenForms.{anyFrom}
-use Rattle.file_form.specs.Writer.{header, filled, bucketBytes, body, fileOf, writeFile}
+use Rattle.file_form.specs.Writer.{header, filled, cellBytes, bucketBytes, body, fileOf, writeFile}
 use Rattle.file_header.specs.Answers.{HeaderPut}
-use Rattle.holdfile.specs.Internal.{largerOf, bucketBytesAt}
+use Rattle.holdfile.specs.Internal.{slack, largerOf, bucketBytesAt}
 use Rattle.file_form.proofs.Laws.{header-laws}
 use Rattle.calls.proofs.Laws.{writer-laws}
-
--- ── parts ──
--- a part that is there, and one that is left out
-pub put-part : {o e : List ℕ} {at r : ℕ} (l : List ℕ) (t : Bool) → t ≡ true → Put o e at l r → Put o e at (where? t l) r
-put-part l true e k = k
-put-part l false e k = absurd (let z : _≡_ {A = ℕ} 0 1 = cc in omega arith)
-
-pub put-no-part : (o : List ℕ) (at : ℕ) (l : List ℕ) (t : Bool) → t ≡ false → Put o o at (where? t l) at
-put-no-part o at l true e = absurd (let z : _≡_ {A = ℕ} 0 1 = cc in omega arith)
-put-no-part o at l false e = put-nothing o at
 
 -- ── sizes ──
 pub cond-le : (t : Bool) (n : ℕ) → cond t n 0 ≤ n
 cond-le true n = omega arith
 cond-le false n = omega arith
 
-pub part-length : (t : Bool) (l : List ℕ) → length (where? t l) ≡ cond t (length l) 0
+part-length : (t : Bool) (l : List ℕ) → length (where? t l) ≡ cond t (length l) 0
 part-length true l = refl
 part-length false l = refl
-
-pub part-stands : (t : Bool) (l : List ℕ) → t ≡ true → length (where? t l) ≡ length l
-part-stands true l e = refl
-part-stands false l e = absurd (let z : _≡_ {A = ℕ} 0 1 = cc in omega arith)
-
-pub room-for : (l : List ℕ) (t : Bool) (at room : ℕ) → t ≡ true → at + length (where? t l) ≤ room → at + length l ≤ room
-room-for l t at room e h = omega (arith, part-stands t l e)
 
 -- the bytes of the fingerprints
 pub printSizes : List ℕ → ℕ
 printSizes [] = 0
 printSizes (v ∷ l) = cond (filled v) 2 0 + printSizes l
 
-bucket-length : (a b c d : ℕ) → length (bucketBytes a b c d) ≡ 1 + cond (filled a) 2 0 + cond (filled b) 2 0 + cond (filled c) 2 0 + cond (filled d) 2 0
-bucket-length a b c d = simp (length-append, part-length) (omega arith)
+pub cell-length : (v : ℕ) → length (cellBytes v) ≡ cond (filled v) 2 0
+cell-length v = part-length (filled v) (pair v)
+
+pub bucket-length : (a b c d : ℕ) → length (bucketBytes a b c d) ≡ 1 + length (cellBytes a) + length (cellBytes b) + length (cellBytes c) + length (cellBytes d)
+bucket-length a b c d = simp length-append (omega arith)
+
+-- two for each filled cell
+pub counted : (t : Bool) → (boolByte t ≤ 1) × (2 * boolByte t ≡ cond t 2 0)
+counted true = (omega arith, refl)
+counted false = (omega arith, refl)
 
 -- a byte for each bucket besides
 pub body-length : (m : ℕ) (c : List ℕ) → length c ≡ 4 * m → length (body c) ≡ m + printSizes c
@@ -67,7 +59,49 @@ body-length (suc m) [] e = absurd (omega arith)
 body-length (suc m) (a ∷ []) e = absurd (omega arith)
 body-length (suc m) (a ∷ b ∷ []) e = absurd (omega arith)
 body-length (suc m) (a ∷ b ∷ c ∷ []) e = absurd (omega arith)
-body-length (suc m) (a ∷ b ∷ c ∷ d ∷ l) e = omega (arith, length-append (bucketBytes a b c d) (body l), bucket-length a b c d, body-length m l (omega arith))
+body-length (suc m) (a ∷ b ∷ c ∷ d ∷ l) e =
+    omega (arith, length-append (bucketBytes a b c d) (body l), bucket-length a b c d, cell-length a, cell-length b, cell-length c, cell-length d, body-length m l (omega arith))
+
+-- ── a cell ──
+-- there is room for both bytes where they are stored
+pub cell-room : (ahead : Bool) (v : ℕ) → (ahead || filled v) ≡ true → 2 ≤ length (cellBytes v) + slack ahead
+cell-room true v e = omega arith
+cell-room false v e =
+    let two : _≡_ {A = ℕ} (cond (filled v) 2 0) 2 = ap (λ (t : Bool). cond t 2 0) e in
+    omega (arith, cell-length v)
+
+module _ (ahead : Bool) (o : List ℕ) (at v : ℕ) where
+  abbrev Stored : List ℕ → Type 0
+  Stored e = PutBefore (slack ahead) o e at (cellBytes v) (at + cond (filled v) 2 0)
+
+  -- they are stored: the cell's, or something to be stored over
+  pub cell-stored : (ahead || filled v) ≡ true → Stored (set (set o at (v % 256)) (at + 1) (v / 256))
+  cell-stored e = rw (add-one at) (go ahead (filled v) e)
+    where
+      over : (more : List ℕ) → 2 ≤ length more → sets (set (set o at (v % 256)) (suc at) (v / 256)) at more ≡ sets o at more
+      over [] h = absurd (omega arith)
+      over (x ∷ []) h = absurd (omega arith)
+      over (x ∷ y ∷ more) h = ap (λ (l : List ℕ). sets l (suc (suc at)) more) (stored-over o at (v % 256) (v / 256) x y)
+
+      go : (a t : Bool) → (a || t) ≡ true → PutBefore (cond a 2 0) o (set (set o at (v % 256)) (suc at) (v / 256)) at (where? t (pair v)) (at + cond t 2 0)
+      go a true e =
+          let two : at + 2 ≡ suc (suc at) = omega arith in
+          record { output = λ more h. ap (λ (n : ℕ). sets (set (set o at (v % 256)) (suc at) (v / 256)) n more) two; place = refl }
+      go true false e =
+          let none : at + 0 ≡ at = omega arith in
+          record { output = λ more h. ap (λ (n : ℕ). sets (set (set o at (v % 256)) (suc at) (v / 256)) n more) none ∙ over more h; place = refl }
+      go false false e = absurd (let z : _≡_ {A = ℕ} 0 1 = cc in omega arith)
+
+  -- they are not, and need not be
+  pub cell-left-out : (ahead || filled v) ≡ false → Stored o
+  cell-left-out e = go ahead (filled v) e
+    where
+      go : (a t : Bool) → (a || t) ≡ false → PutBefore (cond a 2 0) o o at (where? t (pair v)) (at + cond t 2 0)
+      go true t e = absurd (let z : _≡_ {A = ℕ} 0 1 = cc in omega arith)
+      go false true e = absurd (let z : _≡_ {A = ℕ} 0 1 = cc in omega arith)
+      go false false e =
+          let none : at + 0 ≡ at = omega arith in
+          rw none (put-before (put-nothing o at))
 
 -- ── the loops ──
 pub drop-four : (c : List ℕ) (i : ℕ) → i + 4 ≤ length c → drop i c ≡ getD c i 0 ∷ getD c (i + 1) 0 ∷ getD c (i + 2) 0 ∷ getD c (i + 3) 0 ∷ drop (i + 4) c
@@ -85,6 +119,18 @@ drop-four c i h =
 pub body-step : (c : List ℕ) (i : ℕ) → i + 4 ≤ length c → body (drop i c) ≡ bucketBytesAt c i ++ body (drop (i + 4) c)
 unfolding body
 body-step c i h = ap body (drop-four c i h)
+
+-- two buckets have two bytes at least
+pub body-two : (c : List ℕ) (i : ℕ) → i + 8 ≤ length c → 2 ≤ length (body (drop i c))
+body-two c i h =
+    let four : i + 4 + 4 ≤ length c = omega arith in
+    omega (
+      arith,
+      ap length (body-step c i (omega arith)),
+      ap length (body-step c (i + 4) four),
+      length-append (bucketBytesAt c i) (body (drop (i + 4) c)),
+      length-append (bucketBytesAt c (i + 4)) (body (drop (i + 4 + 4) c)),
+    )
 
 pub body-end : (c : List ℕ) (i : ℕ) → length c ≤ i → body (drop i c) ≡ []
 unfolding body

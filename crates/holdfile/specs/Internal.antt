@@ -5,11 +5,12 @@ use mathlib.Core.Bool.{Bool, true, false, cond}
 use mathlib.Core.List.{List, []}
 use Prim.Native.Nat.{ℕ, _+_, _*_, _^_, _≤_}
 use lib.Dec.{leb}
-use lib.ListN.{length, drop, getD, set}
+use lib.ListN.{length, drop, getD}
 use Rattle.calls.specs.WrittenForms.{anyFrom}
 use Rattle.file_form.specs.Writer.{bucketBytes, body}
 use Rattle.file_form.specs.Parsed.{Parsed, stop, next}
-use Rattle.file_form.specs.Reader.{readCell, readBucket}
+use Rattle.file_form.specs.Bytes.{bit0, bit1, bit2, bit3}
+use Rattle.file_form.specs.Reader.{readBucket}
 use Rattle.holdfile.specs.declared.Size.{Size}
 use Rattle.holdfile.specs.declared.Field.{Field}
 use Rattle.holdfile.specs.declared.Pass.{Pass}
@@ -18,6 +19,10 @@ use Rattle.holdfile.specs.declared.Pass.{Pass}
 -- the bytes of the bucket in the four cells from i on
 abbrev pub bucketBytesAt : List ℕ → ℕ → List ℕ
 bucketBytesAt c i = bucketBytes (getD c i 0) (getD c (i + 1) 0) (getD c (i + 2) 0) (getD c (i + 3) 0)
+
+-- what may be changed behind a cell or a bucket, where more is still to be stored there
+abbrev pub slack : Bool → ℕ
+slack ahead = cond ahead 2 0
 
 abbrev pub largerOf : ℕ → ℕ → ℕ
 largerOf a b = cond (leb a b) b a
@@ -44,13 +49,12 @@ pairFrom l at = getD l at 0 + 256 * getD l (at + 1) 0
 abbrev pub cellFrom : List ℕ → ℕ → Bool → ℕ
 cellFrom l at stands = cond stands (pairFrom l at) 0
 
--- a fingerprint of the width stands at a place, where that is said
-abbrev pub PrintAt : ℕ → List ℕ → ℕ → Bool → Type 0
-PrintAt w l at true = readCell w true (drop at l) ≡ next (pairFrom l at) (drop (at + 2) l)
-PrintAt w l at false = Unit {0}
+-- a bucket's bytes, by the one that marks its cells
+abbrev pub bucketSize : ℕ → ℕ
+bucketSize m = 1 + cond (bit0 m) 2 0 + cond (bit1 m) 2 0 + cond (bit2 m) 2 0 + cond (bit3 m) 2 0
 
 -- where a reading ends, without what it gives; whether it gives anything; and what
-abbrev pub endOf : Parsed (List ℕ) → Parsed (Unit {0})
+abbrev pub endOf : {A : Type 0} → Parsed A → Parsed (Unit {0})
 endOf (stop n) = stop n
 endOf (next c end) = next tt end
 
@@ -62,12 +66,7 @@ abbrev pub cellsRead : Parsed (List ℕ) → List ℕ
 cellsRead (stop n) = []
 cellsRead (next c end) = c
 
--- a bucket of four fingerprints stands at a place, where that is said
-abbrev pub FullAt : ℕ → List ℕ → ℕ → Bool → Type 0
-FullAt w l at true = (at + 9 ≤ length l) × (endOf (readBucket w (drop at l)) ≡ next tt (drop (at + 9) l))
-FullAt w l at false = Unit {0}
-
--- a cell was read, as one that has passed, and stored as cell i
-pub record CellStored (l before after : List ℕ) (at : ℕ) (stands : Bool) (i end : ℕ) : Type 0 where
-  pub output : after ≡ set before i (cellFrom l at stands)
-  pub place : end ≡ at + cond stands 2 0
+-- a good bucket stands at a place, where that is said
+abbrev pub GoodAt : ℕ → List ℕ → ℕ → Bool → Type 0
+GoodAt w l at true = endOf (readBucket w (drop at l)) ≡ next tt (drop (at + bucketSize (getD l at 0)) l)
+GoodAt w l at false = Unit {0}

@@ -4,18 +4,17 @@ ghost use mathlib.Core.Bool.{cond, _&&_, _||_};
 ghost use mathlib.Core.List.{[], _∷_};
 ghost use Prim.Native.Nat.{_+_, _*_, _%_, _^_, _<_, _≤_};
 ghost use lib.Dec.{eqb, leb};
-ghost use lib.ListN.{length, drop};
+ghost use lib.ListN.{length, drop, getD};
 ghost use lib.Seq.{sets};
-ghost use Rattle.lemmas.specs.Stores.{Put};
-ghost use Rattle.file_form.specs.Bytes.{pair, nibble as nibbleOf, one as oneOf, where?};
+ghost use Rattle.lemmas.specs.Stores.{Put, PutBefore};
+ghost use Rattle.file_form.specs.Bytes.{nibble as nibbleOf, one as oneOf};
 ghost use Rattle.refusals.specs.Outcomes.{outcome, keeping};
 ghost use Rattle.file_form.specs.Parsed.{next, answerOf};
-ghost use Rattle.file_form.specs.Fields.{field};
-ghost use Rattle.file_form.specs.Writer.{body, writeFile};
-ghost use Rattle.file_form.specs.Reader.{takeByte, takePair, readBucket, readBuckets, afterHeader, readFile};
+ghost use Rattle.file_form.specs.Writer.{cellBytes, body, writeFile};
+ghost use Rattle.file_form.specs.Reader.{takeByte, takePair, readCell, readBucket, readBuckets, afterHeader, readFile};
 ghost use Rattle.file_header.specs.Answers.{readIs};
 ghost use Rattle.holdfile.specs.Answers.{writeIs};
-ghost use Rattle.holdfile.specs.Internal.{fieldIs, PrintAt, FullAt, largerOf, passIs, endOf, GivesCells, cellsRead, CellStored, Sized, bucketBytesAt};
+ghost use Rattle.holdfile.specs.Internal.{fieldIs, slack, largerOf, passIs, endOf, pairFrom, GivesCells, cellsRead, bucketSize, GoodAt, Sized, bucketBytesAt};
 use file_header::HeaderRead;
 use file_header::ReadAnswer;
 use index::Settings;
@@ -38,7 +37,7 @@ enum Field {
     Short,
 }
 
-// The place after one bucket or more.
+// The place after a cell, a bucket or more of them.
 enum Pass {
     End(usize),
     Refused(u32),
@@ -80,25 +79,25 @@ fn larger(a: u16, b: u16) -> u16
 }
 
 // The first pass over the cells: are they below 2^w, and how many bytes do the buckets take? The largest is compared once, at the
-// end: a loop that may stop at each cell is far slower.
+// end: a loop that may stop at each cell is far slower. Cells are counted in 32 bits, of which a register has four.
 fn body_size(table: &[u16], width: u32, buckets: usize) -> Size
-    requires { ⌜ (width ≤ 16) × (length (now table) ≡ 4 * buckets) ⌝ }
+    requires { ⌜ (width ≤ 16) × (length (now table) ≡ 4 * buckets) × (buckets ≤ 65536) ⌝ }
     ensures { λ r. ⌜ Sized width (now (table .entry)) r ⌝ }
 {
     let mut top = 0;
-    let mut n = buckets;
+    let mut filled = 0u32;
     let mut i = 0;
     while i < table.len() {
         let v = table[i];
         top = larger(top, v);
-        n += part_size(v != 0, 2);
+        filled += (v != 0) as u32;
         i += 1;
     }
     let limit = 1u32 << width;
     if wide(top) >= limit {
         return Size::TooWide;
     }
-    Size::Bytes(n)
+    Size::Bytes(buckets + 2 * (filled as usize))
 }
 
 // The place after the byte.
@@ -110,45 +109,54 @@ fn put_byte(out: &mut [u8], at: usize, v: u8) -> usize
     at + 1
 }
 
-fn put_pair_field(out: &mut [u8], at: usize, stands: bool, x: u16) -> usize
-    requires { ⌜ at + length (where? stands (pair x)) ≤ length (now out) ⌝ }
-    ensures { λ r. ⌜ Put (now (out .entry)) (now (out .exit)) at (where? stands (pair x)) r ⌝ }
+// A cell, which takes two bytes where it is filled. Where more is still to be stored behind it, ahead, both bytes are stored in any case
+// and an empty cell's are stored over: whether a cell is filled is then no branch.
+fn put_cell(out: &mut [u8], at: usize, x: u16, ahead: bool) -> usize
+    requires { ⌜ at + length (cellBytes x) + slack ahead ≤ length (now out) ⌝ }
+    ensures { λ r. ⌜ PutBefore (slack ahead) (now (out .entry)) (now (out .exit)) at (cellBytes x) r ⌝ }
 {
-    if stands {
-        let low = (x % 256) as u8;
-        let high = (x / 256) as u8;
-        let next = put_byte(out, at, low);
-        return put_byte(out, next, high);
+    let next = at + part_size(x != 0, 2);
+    if ahead | (x != 0) {
+        out[at] = (x % 256) as u8;
+        out[at + 1] = (x / 256) as u8;
+        return next;
     }
-    at
+    next
 }
 
-// The bucket of the four cells from i on.
-fn put_bucket(out: &mut [u8], at: usize, table: &[u16], i: usize) -> usize
-    requires { ⌜ (i + 4 ≤ length (now table)) × (at + length (bucketBytesAt (now table) i) ≤ length (now out)) ⌝ }
-    ensures { λ r. ⌜ Put (now (out .entry)) (now (out .exit)) at (bucketBytesAt (now (table .entry)) i) r ⌝ }
+// The bucket of the four cells from i on. Its size is added up apart: the places of all later buckets wait for it.
+fn put_bucket(out: &mut [u8], at: usize, table: &[u16], i: usize, ahead: bool) -> usize
+    requires { ⌜ (i + 4 ≤ length (now table)) × (at + length (bucketBytesAt (now table) i) + slack ahead ≤ length (now out)) ⌝ }
+    ensures { λ r. ⌜ PutBefore (slack ahead) (now (out .entry)) (now (out .exit)) at (bucketBytesAt (now (table .entry)) i) r ⌝ }
 {
     let a = table[i];
     let b = table[i + 1];
     let c = table[i + 2];
     let d = table[i + 3];
     let marks = nibble(a != 0, b != 0, c != 0, d != 0);
-    let at = put_byte(out, at, marks);
-    let at = put_pair_field(out, at, a != 0, a);
-    let at = put_pair_field(out, at, b != 0, b);
-    let at = put_pair_field(out, at, c != 0, c);
-    put_pair_field(out, at, d != 0, d)
+    let low = part_size(a != 0, 2) + part_size(b != 0, 2);
+    let high = part_size(c != 0, 2) + part_size(d != 0, 2);
+    let first = put_byte(out, at, marks);
+    let second = put_cell(out, first, a, ahead);
+    let third = put_cell(out, second, b, ahead);
+    let fourth = put_cell(out, third, c, ahead);
+    put_cell(out, fourth, d, ahead);
+    at + (1 + low + high)
 }
 
-// The second pass over the cells.
+// The second pass over the cells. Behind every bucket but the last two at least two bytes are still to be stored.
 fn put_body(out: &mut [u8], from: usize, table: &[u16])
     requires { ⌜ (length (now table) % 4 ≡ 0) × (from + length (body (now table)) ≤ length (now out)) ⌝ }
     ensures { λ r. ⌜ now (out .exit) ≡ sets (now (out .entry)) from (body (now (table .entry))) ⌝ }
 {
     let mut at = from;
     let mut i = 0;
+    while i + 8 < table.len() {
+        at = put_bucket(out, at, table, i, true);
+        i += 4;
+    }
     while i < table.len() {
-        at = put_bucket(out, at, table, i);
+        at = put_bucket(out, at, table, i, false);
         i += 4;
     }
 }
@@ -213,114 +221,118 @@ fn pair_at(bytes: &[u8], at: usize) -> Field
     Field::Short
 }
 
-// A number of two bytes where its cell is marked, else its default, which takes no bytes.
-fn pair_field(bytes: &[u8], at: usize, stands: bool, default: u16) -> Field
-    ensures { λ r. ⌜ fieldIs (now (bytes .entry)) r ≡ field stands default takePair (drop at (now (bytes .entry))) ⌝ }
-{
-    if stands {
-        return pair_at(bytes, at);
-    }
-    Field::Value(default, at)
-}
-
 // A fingerprint that no filled cell of the width has.
 fn unfit(marked: bool, v: u16, width: u32) -> bool
     requires { ⌜ width ≤ 16 ⌝ }
     ensures { λ r. ⌜ r ≡ (marked && (eqb v 0 || leb (2 ^ width) v)) ⌝ }
 {
-    if !marked {
-        return false;
-    }
-    if v == 0 {
-        return true;
-    }
-    wide(v) >= 1u32 << width
+    marked & ((v == 0) | (wide(v) >= 1u32 << width))
 }
 
-// The place after a bucket, of which any cell may be marked. One that is not takes no bytes.
+// The place after a cell. One that is not marked takes no bytes.
+fn cell_end(bytes: &[u8], at: usize, marked: bool, width: u32) -> Pass
+    requires { ⌜ width ≤ 16 ⌝ }
+    ensures { λ r. ⌜ passIs (now (bytes .entry)) r ≡ endOf (readCell width marked (drop at (now (bytes .entry)))) ⌝ }
+{
+    if !marked {
+        return Pass::End(at);
+    }
+    let Field::Value(v, end) = pair_at(bytes, at) else {
+        return Pass::Refused(11);
+    };
+    if unfit(true, v, width) {
+        return Pass::Refused(14);
+    }
+    Pass::End(end)
+}
+
+// The place after a bucket, cell by cell.
 fn bucket_by_cells(bytes: &[u8], at: usize, width: u32) -> Pass
     requires { ⌜ width ≤ 16 ⌝ }
     ensures { λ r. ⌜ passIs (now (bytes .entry)) r ≡ endOf (readBucket width (drop at (now (bytes .entry)))) ⌝ }
 {
-    let Field::Value(marks, at) = byte_at(bytes, at) else {
+    let Field::Value(m, first) = byte_at(bytes, at) else {
         return Pass::Refused(11);
     };
-    if marks >= 16 {
+    if m >= 16 {
         return Pass::Refused(13);
     }
-    let Field::Value(a, at) = pair_field(bytes, at, marks % 2 == 1, 0) else {
-        return Pass::Refused(11);
+    let a = cell_end(bytes, first, m % 2 == 1, width);
+    let Pass::End(second) = a else {
+        return a;
     };
-    if unfit(marks % 2 == 1, a, width) {
-        return Pass::Refused(14);
-    }
-    let Field::Value(b, at) = pair_field(bytes, at, marks / 2 % 2 == 1, 0) else {
-        return Pass::Refused(11);
+    let b = cell_end(bytes, second, m / 2 % 2 == 1, width);
+    let Pass::End(third) = b else {
+        return b;
     };
-    if unfit(marks / 2 % 2 == 1, b, width) {
-        return Pass::Refused(14);
-    }
-    let Field::Value(c, at) = pair_field(bytes, at, marks / 4 % 2 == 1, 0) else {
-        return Pass::Refused(11);
+    let c = cell_end(bytes, third, m / 4 % 2 == 1, width);
+    let Pass::End(fourth) = c else {
+        return c;
     };
-    if unfit(marks / 4 % 2 == 1, c, width) {
-        return Pass::Refused(14);
-    }
-    let Field::Value(d, at) = pair_field(bytes, at, marks / 8 % 2 == 1, 0) else {
-        return Pass::Refused(11);
-    };
-    if unfit(marks / 8 % 2 == 1, d, width) {
-        return Pass::Refused(14);
-    }
-    Pass::End(at)
+    cell_end(bytes, fourth, m / 8 % 2 == 1, width)
 }
 
-// Does a fingerprint of the width stand at a place?
-fn print_at(bytes: &[u8], at: usize, width: u32) -> bool
-    requires { ⌜ (width ≤ 16) × (at + 2 ≤ length (now bytes)) ⌝ }
-    ensures { λ r. ⌜ PrintAt width (now (bytes .entry)) at r ⌝ }
+// The bytes of a bucket by the byte that marks its cells: digit by digit of one word, for 15 down to 0. A sum of the four marks would be
+// right as well, but the place of every later bucket waits for it.
+fn bucket_size(marks: u8) -> usize
+    ensures { λ r. ⌜ r ≡ bucketSize marks ⌝ }
 {
-    if unfit(true, pair_of(bytes[at], bytes[at + 1]), width) {
-        return false;
-    }
-    true
+    let digit = ((marks % 16) as u32) * 4;
+    ((10913758273313395505u64 >> digit) % 16) as usize
 }
 
-// Does a bucket of four good fingerprints stand at a place? Most buckets of a table that is nearly full are such, and their check is short.
-fn full_at(bytes: &[u8], at: usize, width: u32) -> bool
-    requires { ⌜ width ≤ 16 ⌝ }
-    ensures { λ r. ⌜ FullAt width (now (bytes .entry)) at r ⌝ }
+// A byte, or 0 past the end.
+fn byte_or(bytes: &[u8], at: usize) -> u8
+    ensures { λ r. ⌜ r ≡ getD (now (bytes .entry)) at 0 ⌝ }
 {
-    let n = bytes.len();
-    if n < 9 {
-        return false;
-    }
-    if n - 9 < at {
-        return false;
-    }
-    if bytes[at] != 15 {
-        return false;
-    }
-    if !print_at(bytes, at + 1, width) {
-        return false;
-    }
-    if !print_at(bytes, at + 3, width) {
-        return false;
-    }
-    if !print_at(bytes, at + 5, width) {
-        return false;
-    }
-    print_at(bytes, at + 7, width)
+    if at < bytes.len() { bytes[at] } else { 0 }
 }
 
-// The place after a bucket.
+// Two bytes from a place on. Where they are known to be there, ahead, that is not asked.
+fn pair_from(bytes: &[u8], at: usize, ahead: bool) -> u16
+    requires { ⌜ at + cond ahead 2 0 ≤ length (now bytes) ⌝ }
+    ensures { λ r. ⌜ r ≡ pairFrom (now (bytes .entry)) at ⌝ }
+{
+    if ahead {
+        let low = bytes[at];
+        let high = bytes[at + 1];
+        return pair_of(low, high);
+    }
+    pair_of(byte_or(bytes, at), byte_or(bytes, at + 1))
+}
+
+// Does a good bucket stand at a place? The four tests are made in any case, on bytes that are there, and no branch depends on them.
+fn good_at(bytes: &[u8], at: usize, width: u32) -> bool
+    requires { ⌜ (width ≤ 16) × (at + 9 ≤ length (now bytes)) ⌝ }
+    ensures { λ r. ⌜ GoodAt width (now (bytes .entry)) at r ⌝ }
+{
+    let m = bytes[at];
+    let first = at + 1;
+    let second = first + part_size(m % 2 == 1, 2);
+    let third = second + part_size(m / 2 % 2 == 1, 2);
+    let fourth = third + part_size(m / 4 % 2 == 1, 2);
+    let a = pair_from(bytes, first, true);
+    let b = pair_from(bytes, second, true);
+    let c = pair_from(bytes, third, true);
+    let d = pair_from(bytes, fourth, true);
+    let low = unfit(m % 2 == 1, a, width) | unfit(m / 2 % 2 == 1, b, width);
+    let high = unfit(m / 4 % 2 == 1, c, width) | unfit(m / 8 % 2 == 1, d, width);
+    !((m >= 16) | low | high)
+}
+
+// The place after a bucket. One that is good and not near the end of the bytes is passed at once; any other cell by cell, which finds
+// the number.
 fn bucket_end(bytes: &[u8], at: usize, width: u32) -> Pass
     requires { ⌜ width ≤ 16 ⌝ }
     ensures { λ r. ⌜ passIs (now (bytes .entry)) r ≡ endOf (readBucket width (drop at (now (bytes .entry)))) ⌝ }
 {
-    if full_at(bytes, at, width) {
-        let end = at + 9;
-        return Pass::End(end);
+    let n = bytes.len();
+    if n >= 9 {
+        if at <= n - 9 {
+            if good_at(bytes, at, width) {
+                return Pass::End(at + bucket_size(bytes[at]));
+            }
+        }
     }
     bucket_by_cells(bytes, at, width)
 }
@@ -346,45 +358,52 @@ fn check_buckets(bytes: &[u8], from: usize, width: u32, count: u32) -> Pass
     Pass::End(at)
 }
 
-// One cell into cell i, where the first pass has met no refusal; the place after it.
-fn store_cell(bytes: &[u8], at: usize, stands: bool, table: &mut [u16], i: usize) -> usize
-    requires { ⌜ (at + cond stands 2 0 ≤ length (now bytes)) × (i < length (now table)) ⌝ }
-    ensures { λ r. ⌜ CellStored (now (bytes .entry)) (now (table .entry)) (now (table .exit)) at stands i r ⌝ }
+// A cell's value, or 0 where it is not marked.
+fn pick(stands: bool, v: u16) -> u16
+    ensures { λ r. ⌜ r ≡ cond stands v 0 ⌝ }
 {
-    if stands {
-        let next = at + 2;
-        table[i] = pair_of(bytes[at], bytes[at + 1]);
-        return next;
-    }
-    table[i] = 0;
-    at
+    if stands { v } else { 0 }
 }
 
 // One bucket into the part that is lent for it, so that no other is in reach; the place after it. The first pass has met no refusal, so
 // nothing is checked again: the width only says what has passed.
-fn store_bucket(bytes: &[u8], at: usize, width: u32, part: &mut [u16]) -> usize
-    requires { ⌜ (width ≤ 16) × (length (now part) ≡ 4) × GivesCells (readBucket width (drop at (now bytes))) ⌝ }
+fn store_bucket(bytes: &[u8], at: usize, width: u32, part: &mut [u16], ahead: bool) -> usize
+    requires { ⌜ (length (now part) ≡ 4) × (at + cond ahead 9 0 ≤ length (now bytes)) × GivesCells (readBucket width (drop at (now bytes))) ⌝ }
     ensures { λ r. ⌜ readBucket width (drop at (now (bytes .entry))) ≡ next (now (part .exit)) (drop r (now (bytes .entry))) ⌝ }
 {
-    let marks = widen(bytes[at]);
-    let at = at + 1;
-    let at = store_cell(bytes, at, marks % 2 == 1, part, 0);
-    let at = store_cell(bytes, at, marks / 2 % 2 == 1, part, 1);
-    let at = store_cell(bytes, at, marks / 4 % 2 == 1, part, 2);
-    store_cell(bytes, at, marks / 8 % 2 == 1, part, 3)
+    let m = bytes[at];
+    let first = at + 1;
+    let second = first + part_size(m % 2 == 1, 2);
+    let third = second + part_size(m / 2 % 2 == 1, 2);
+    let fourth = third + part_size(m / 4 % 2 == 1, 2);
+    let a = pick(m % 2 == 1, pair_from(bytes, first, ahead));
+    let b = pick(m / 2 % 2 == 1, pair_from(bytes, second, ahead));
+    let c = pick(m / 4 % 2 == 1, pair_from(bytes, third, ahead));
+    let d = pick(m / 8 % 2 == 1, pair_from(bytes, fourth, ahead));
+    part[0] = a;
+    part[1] = b;
+    part[2] = c;
+    part[3] = d;
+    at + bucket_size(m)
 }
 
 // The second pass: every bucket into the table.
 fn store_buckets(bytes: &[u8], from: usize, width: u32, count: u32, table: &mut [u16])
-    requires { ⌜ (width ≤ 16) × (length (now table) ≡ 4 * count) × GivesCells (readBuckets width count (drop from (now bytes))) ⌝ }
+    requires { ⌜ (length (now table) ≡ 4 * count) × GivesCells (readBuckets width count (drop from (now bytes))) ⌝ }
     ensures { λ r. ⌜ now (table .exit) ≡ cellsRead (readBuckets width count (drop from (now (bytes .entry)))) ⌝ }
 {
     let mut at = from;
     let mut i = 0;
     let mut left = count;
+    while left > 8 {
+        let e = i + 4;
+        at = store_bucket(bytes, at, width, &mut table[i..e], true);
+        i = e;
+        left -= 1;
+    }
     while left > 0 {
         let e = i + 4;
-        at = store_bucket(bytes, at, width, &mut table[i..e]);
+        at = store_bucket(bytes, at, width, &mut table[i..e], false);
         i = e;
         left -= 1;
     }

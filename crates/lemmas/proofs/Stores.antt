@@ -1,12 +1,12 @@
 -- Numbers stored one after the other: parts in a row, and what is left of a whole.
 -- Assumes nothing.
 use mathlib.Core.Path.{_≡_, refl, sym, ap, ap₂, _∙_}
-use mathlib.Core.List.{List, [], _∷_, _++_}
-use Prim.Native.Nat.{ℕ, suc, _+_, _≤_}
+use mathlib.Core.List.{List, [], _∷_, _++_, append-assoc}
+use Prim.Native.Nat.{ℕ, zero, suc, _+_, _≤_}
 use native.Mathlib.Omega.{arith}
 use lib.ListN.{length, set, length-append}
 use lib.Seq.{sets, length-sets}
-use Rattle.lemmas.specs.Stores.{Put}
+use Rattle.lemmas.specs.Stores.{Put, PutBefore}
 
 pub sets-append : (l : List ℕ) (i : ℕ) (a b : List ℕ) → sets l i (a ++ b) ≡ sets (sets l i a) (i + length a) b
 sets-append l i [] b =
@@ -28,6 +28,26 @@ put-then {o} {e} {f} {at} {q} {r} {a} {b} k m = record {
 pub put-length : {o e : List ℕ} {at q : ℕ} {a : List ℕ} → Put o e at a q → length e ≡ length o
 put-length {o} {e} {at} {q} {a} k = ap length (k .output) ∙ length-sets o at a
 
+-- ── stores that leave something behind them to be stored over ──
+pub put-before : {n : ℕ} {o e : List ℕ} {at r : ℕ} {a : List ℕ} → Put o e at a r → PutBefore n o e at a r
+put-before {n} {o} {e} {at} {r} {a} k = record {
+  output = λ more h. ap₂ (λ (l : List ℕ) (j : ℕ). sets l j more) (k .output) (k .place) ∙ sym (sets-append o at a more);
+  place = k .place;
+}
+
+pub before-then : {n : ℕ} {o e f : List ℕ} {at q r : ℕ} {a b : List ℕ} → PutBefore n o e at a q → PutBefore n e f q b r → PutBefore n o f at (a ++ b) r
+before-then {n} {o} {e} {f} {at} {q} {r} {a} {b} k m = record {
+  output = λ more h. m .output more h ∙ k .output (b ++ more) (omega (arith, length-append b more)) ∙ ap (sets o at) (sym (append-assoc a b more));
+  place = omega (arith, k .place, m .place, length-append a b);
+}
+
+-- two places stored, and stored over
+pub stored-over : (o : List ℕ) (i x y u v : ℕ) → set (set (set (set o i x) (suc i) y) i u) (suc i) v ≡ set (set o i u) (suc i) v
+stored-over [] i x y u v = refl
+stored-over (a ∷ []) zero x y u v = refl
+stored-over (a ∷ b ∷ o) zero x y u v = refl
+stored-over (a ∷ o) (suc i) x y u v = ap (λ (l : List ℕ). a ∷ l) (stored-over o i x y u v)
+
 -- what is left to store of a whole
 pub record Left (o e : List ℕ) (from at : ℕ) (all rest : List ℕ) : Type 0 where
   pub output : sets e at rest ≡ sets o from all
@@ -42,12 +62,15 @@ module _ {o e : List ℕ} {from at : ℕ} {all rest : List ℕ} (k : Left o e fr
   left-room a more s h = omega (arith, k .place, k .long, ap length s, length-append a more)
 
   -- a part more, and the rest from there
-  pub left-turn : {f a : List ℕ} {r : ℕ} (more : List ℕ) → Put e f at a r → rest ≡ a ++ more → Left o f from r all more
-  left-turn {f} {a} {r} more p s = record {
-    output = ap₂ (λ (l : List ℕ) (n : ℕ). sets l n more) (p .output) (p .place) ∙ sym (sets-append e at a more) ∙ ap (sets e at) (sym s) ∙ k .output;
+  pub left-before : {n : ℕ} {f a : List ℕ} {r : ℕ} (more : List ℕ) → PutBefore n e f at a r → rest ≡ a ++ more → n ≤ length more → Left o f from r all more
+  left-before {n} {f} {a} {r} more p s h = record {
+    output = p .output more h ∙ ap (sets e at) (sym s) ∙ k .output;
     place = omega (arith, p .place, k .place, ap length s, length-append a more);
-    long = put-length p ∙ k .long;
+    long = sym (length-sets f r more) ∙ ap length (p .output more h) ∙ length-sets e at (a ++ more) ∙ k .long;
   }
+
+  pub left-turn : {f a : List ℕ} {r : ℕ} (more : List ℕ) → Put e f at a r → rest ≡ a ++ more → Left o f from r all more
+  left-turn more p s = left-before {n = 0} more (put-before p) s (omega arith)
 
   -- the last part
   pub left-fits : from + length all ≤ length o → at + length rest ≤ length e

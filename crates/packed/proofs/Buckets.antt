@@ -1,20 +1,17 @@
 -- The table's buckets as the writer takes them: four cells, sorted, and whether a cell does not fit the width.
 -- Assumes nothing.
-use mathlib.Core.Path.{_≡_, refl, sym, ap}
-use mathlib.Core.Bool.{Bool, true, false, not, _||_, or-true}
+use mathlib.Core.Path.{_≡_, refl, sym, _∙_}
+use mathlib.Core.Bool.{false, _||_, or-false, or-assoc}
 use mathlib.Core.List.{List, [], _∷_}
-use Prim.Native.Nat.{ℕ, zero, suc, _+_, _/_, _^_, _≤_, _<_, min, max}
+use Prim.Native.Nat.{ℕ, zero, suc, _+_, _^_, _≤_, _<_, min, max}
 use native.Mathlib.Decide.{decLe}
-use native.Mathlib.Nat.{div-eq-of-lt, le-div-iff-mul-le, mul-le-mul-right}
 use native.Mathlib.Numerals.{add-one}
 use native.Mathlib.Omega.{arith}
-use borrow.Author.Tests.{le-leb, lt-leb, leb-false, ne-eqb}
-use lib.Dec.{eqb, leb}
-use lib.ListN.{length, getD, drop}
-use lib.Pow.{pow-pos, pow-mono}
+use borrow.Author.Tests.{le-leb, lt-leb, leb-false}
+use lib.Dec.{leb}
+use lib.ListN.{length, getD, drop, drop-of-length-le}
 use lib.Seq.{drop-cons}
 use Rattle.lemmas.proofs.Bools.{or-false-left, or-false-right}
-use Rattle.lemmas.proofs.Digits.{quotient-below}
 use Rattle.rows.specs.Rows.{Ascends}
 use Rattle.calls.specs.WrittenForms.{anyFrom}
 use Rattle.packed_form.specs.Writer.{sort4, sortBuckets, codeOf, streamOf}
@@ -70,26 +67,19 @@ module _ {counts : List ℕ} {w : ℕ} {t : List ℕ} {i : ℕ} (A : BucketAsked
     first = rw (drop-four t i (A .inside), z, is) refl;
   }
 
--- ── a cell that does not fit: what stands above the width, added up ──
-abbrev pub some-over : ℕ → Bool
-some-over over = not (eqb over 0)
+-- ── a cell that does not fit: the highest tells ──
+max-wide : (n a b : ℕ) → leb n (max a b) ≡ (leb n a || leb n b)
+max-wide n a b = elim (decLe n a) [
+  | yes h ↦ rw (le-leb n a h) (le-leb n (max a b) (omega arith))
+  | no h ↦ rw (lt-leb n a (omega arith)) (elim (decLe n b) [
+    | yes k ↦ le-leb n (max a b) (omega arith) ∙ sym (le-leb n b k)
+    | no k ↦ lt-leb n (max a b) (omega arith) ∙ sym (lt-leb n b (omega arith))
+  ])
+]
 
-pub over-few : (w v : ℕ) → 4 ≤ w → v < 65536 → v / 2 ^ w < 4096
-over-few w v h k = quotient-below (2 ^ w) 4096 v (omega (arith, mul-le-mul-right 4096 (pow-mono {i = 4} {j = w} h))) (pow-pos w)
+module _ (n : ℕ) (l : List ℕ) (i : ℕ) where
+  pub any-turn : (top : ℕ) {more : ℕ} → more ≡ max top (getD l i 0) → i < length l → (leb n more || anyFrom n (drop (i + 1) l)) ≡ (leb n top || anyFrom n (drop i l))
+  any-turn top e h = rw (e, add-one, drop-cons l i 0 h, max-wide n top (getD l i 0), or-assoc) refl
 
-pub over-next : (w : ℕ) (l : List ℕ) (i over : ℕ) → i < length l
-    → (some-over (over + getD l i 0 / 2 ^ w) || anyFrom (2 ^ w) (drop (i + 1) l)) ≡ (some-over over || anyFrom (2 ^ w) (drop i l))
-over-next w l i over h =
-    let v : ℕ = getD l i 0 in
-    elim (decLe (2 ^ w) v) [
-      | yes k ↦ (
-          let one : 1 ≤ v / 2 ^ w = le-div-iff-mul-le (pow-pos w) .1 (omega arith) in
-          let f : some-over (over + v / 2 ^ w) ≡ true = ap not (ne-eqb (over + v / 2 ^ w) 0 (omega arith)) in
-          rw (add-one, drop-cons l i 0 h, le-leb (2 ^ w) v k, f) (sym (or-true (some-over over)))
-          )
-      | no k ↦ (
-          let y : v / 2 ^ w ≡ 0 = div-eq-of-lt (omega arith) in
-          let z : over + v / 2 ^ w ≡ over = omega arith in
-          rw (add-one, drop-cons l i 0 h, lt-leb (2 ^ w) v (omega arith), z) refl
-          )
-    ]
+  pub any-end : (top : ℕ) → length l ≤ i → (leb n top || anyFrom n (drop i l)) ≡ leb n top
+  any-end top h = rw (drop-of-length-le l h) (or-false (leb n top))

@@ -4,7 +4,7 @@ use mathlib.Core.Path.{_≡_, refl, sym, ap, ap₂, _∙_}
 use mathlib.Core.Option.{none}
 use mathlib.Core.List.{List, [], _∷_, _++_, append-assoc, append-nil}
 use Prim.Native.Nat.{ℕ, suc, _+_, _*_, _-_, _/_, _%_, _^_, _≤_, _<_}
-use native.Mathlib.Nat.{add-zero, mul-assoc, mul-le-mul}
+use native.Mathlib.Nat.{add-zero, mul-add, mul-assoc, mul-left-comm, mul-le-mul, mul-le-mul-left}
 use native.Mathlib.Numerals.{add-one}
 use native.Mathlib.Omega.{arith}
 use borrow.Rule.Slice.PartMut.{midOf, putMid}
@@ -17,7 +17,11 @@ use Rattle.index.specs.Settings.{settingsRefusal}
 use Rattle.index.specs.declared.Settings.{Settings}
 use Rattle.index.proofs.Laws.{laws}
 use Rattle.packed_form.specs.Writer.{bucketBits}
-use Rattle.packed.specs.Internal.{Width}
+use Rattle.packed.specs.Internal.{Width, bytesFor}
+
+-- ── pairs that have two pairs after them ──
+pub ahead-few : (m r : ℕ) → r ≡ (m - 4) / 2 → 2 * r ≤ m - 4
+ahead-few m r e = omega arith
 
 -- ── one byte more ──
 pub byte-past : (word i : ℕ) → word / 2 ^ (8 * i) / 256 ≡ word / 2 ^ (8 * (i + 1))
@@ -87,6 +91,17 @@ half-bits w m = mul-assoc 4 (w - 1) m
 
 pub half-fits : (w m : ℕ) → w ≤ 16 → m ≤ 65536 → (w - 1) * m ≤ 983040
 half-fits w m h k = mul-le-mul {n₂ = 15} {m₂ = 65536} (omega arith) k
+
+-- two buckets take w − 1 bytes
+pub halved : (w k r : ℕ) → (w - 1) * (2 * k + r) ≡ 2 * ((w - 1) * k) + (w - 1) * r
+halved w k r = mul-add (w - 1) (2 * k) r ∙ ap (λ (z : ℕ). z + (w - 1) * r) (mul-left-comm (w - 1) 2 k)
+
+pub pairs-within : (w m k : ℕ) → 2 * k ≤ m → (w - 1) * k ≤ bytesFor w m
+pairs-within w m k h = omega (arith, half-bits w m, mul-le-mul-left (w - 1) h, halved w k 0)
+
+-- and with two pairs after it there is a word from its second bucket on
+pub ahead-within : {w : ℕ} → Width w → (m : ℕ) {many p : ℕ} → 2 * many ≤ m - 4 → p < many → (w - 1) * p + (w - 1) / 2 + 8 ≤ bytesFor w m
+ahead-within {w} W m {many} {p} few h = omega (arith, W .low, mul-add (w - 1) p 3, pairs-within w m (p + 3) (omega arith))
 
 pub width-of : (s : Settings) → settingsRefusal s ≡ none → Width (s .width)
 width-of s e = record { low = laws s e .width-low; high = laws s e .width-high }

@@ -8,11 +8,10 @@ use mathlib.Core.Option.{Option, none, some}
 use mathlib.Core.List.{List, [], _∷_, _++_, append-assoc, append-nil}
 use Prim.Native.Nat.{ℕ, suc, _+_, _*_, _-_, _/_, _%_, _^_, _≤_, _<_}
 use native.Mathlib.Decide.{decLe}
-use native.Mathlib.Nat.{add-zero, mul-suc, mul-le-mul, mul-le-mul-left, div-one, div-eq-of-lt}
+use native.Mathlib.Nat.{add-zero, mul-suc, mul-le-mul, div-one, div-eq-of-lt}
 use native.Mathlib.Numerals.{add-one}
 use native.Mathlib.Omega.{arith}
 use borrow.Author.Tests.{le-leb, lt-leb, eq-eqb, ne-eqb}
-use borrow.Rule.Slice.PartMut.{midOf, putMid, same-len-mid}
 use lib.Bits.{bitAnd}
 use lib.Dec.{eqb, leb}
 use lib.ListN.{length, getD, take, drop, length-append, length-drop}
@@ -24,7 +23,6 @@ use Rattle.refusals.specs.Checks.{check, firstMet}
 use Rattle.refusals.specs.Outcomes.{Answer, refused, given, unless, outcome, keeping}
 use Rattle.refusals.proofs.Cursor.{by-check, by-none}
 use Rattle.index.specs.declared.Settings.{Settings}
-use Rattle.index.proofs.Laws.{laws}
 use Rattle.calls.specs.Cells.{filledCount}
 use Rattle.calls.specs.Calls.{Sound}
 use Rattle.packed_form.specs.Writer.{bucketBits, packedLength}
@@ -33,70 +31,63 @@ use Rattle.calls.proofs.Laws.{filled-laws}
 use Rattle.packed_form.proofs.Laws.{packed-laws}
 use Rattle.packed.specs.declared.UnpackAnswer.{UnpackAnswer}
 use Rattle.packed.specs.Answers.{unpackIs}
-use Rattle.packed.specs.Internal.{Width, Input, countIn, Passes}
+use Rattle.packed.specs.Internal.{Width, Input, streamFrom, codeIn, countIn, Passes, CellsRead, CellsCounted, CellsStored}
 use Rattle.packed.proofs.Words.{masked}
-use Rattle.packed.proofs.Bytes.{half-bits, put-front, tail-put}
+use Rattle.packed.proofs.Bytes.{half-bits, halved, ahead-within, put-front}
 
--- ── the number of bucket b ──
-module _ (w b : ℕ) (bytes : List ℕ) (W : Width w) where
-  abbrev half : ℕ
-  half = (w - 1) * b
+-- ── the number of bucket b, from a word in which it lies ──
+pub code-read : {w : ℕ} → Width w → (b at skip : ℕ) → 8 * at + skip ≡ bucketBits w * b → skip ≤ 4
+    → (bytes : List ℕ) → AllBytes bytes → {word : ℕ} → word ≡ numberFrom (drop at bytes) % 2 ^ 64
+    → bitAnd (word / 2 ^ skip) (1 * 2 ^ (4 * (w - 1)) % 2 ^ 64 - 1) ≡ codeIn w (numberFrom bytes) b
+unfolding bucketBits
+code-read {w} W b at skip place few bytes all {word} e =
+    let size : ℕ = 4 * (w - 1) in
+    let x : ℕ = numberFrom bytes in
+    let y : ℕ = x / 2 ^ (8 * at) in
+    let j : ℕ = 64 - skip in
+    let k : ℕ = j - size in
+    let s2 : 64 ≡ j + skip = omega arith in
+    let s3 : j ≡ k + size = omega (arith, W .high) in
+    let f : word ≡ y % 2 ^ (j + skip) = e ∙ ap₂ (λ (z n : ℕ). z % 2 ^ n) (sym (number-drop at bytes all)) s2 in
+    masked (word / 2 ^ skip) size (omega (arith, W .high))
+    ∙ ap (λ (z : ℕ). z / 2 ^ skip % 2 ^ size) f
+    ∙ ap (λ (z : ℕ). z % 2 ^ size) (field y j skip)
+    ∙ ap (λ (n : ℕ). y / 2 ^ skip % 2 ^ n % 2 ^ size) s3
+    ∙ mod-mod-pow (y / 2 ^ skip) k size
+    ∙ ap (λ (z : ℕ). z % 2 ^ size) (shr-shr x (8 * at) skip ∙ ap (λ (n : ℕ). x / 2 ^ n) place)
 
-  abbrev skip : ℕ
-  skip = half % 2 * 4
+-- the places of a pair
+pub first-place : (w p : ℕ) → 8 * ((w - 1) * p) + 0 ≡ bucketBits w * (2 * p)
+first-place w p = omega (arith, half-bits w (2 * p), halved w p 0)
 
-  pub code-read : AllBytes bytes → (word : ℕ) → word ≡ numberFrom (drop (half / 2) bytes) % 2 ^ 64
-      → bitAnd (word / 2 ^ skip) (1 * 2 ^ (4 * (w - 1)) % 2 ^ 64 - 1) ≡ numberFrom bytes / 2 ^ (bucketBits w * b) % 2 ^ bucketBits w
-  unfolding bucketBits
-  code-read all word e =
-      let at : ℕ = half / 2 in
-      let size : ℕ = 4 * (w - 1) in
-      let x : ℕ = numberFrom bytes in
-      let y : ℕ = x / 2 ^ (8 * at) in
-      let j : ℕ = 64 - skip in
-      let k : ℕ = j - size in
-      let s2 : 64 ≡ j + skip = omega arith in
-      let s3 : j ≡ k + size = omega (arith, W .high) in
-      let s4 : 8 * at + skip ≡ 4 * (w - 1) * b = omega (arith, half-bits w b) in
-      let f : word ≡ y % 2 ^ (j + skip) = e ∙ ap₂ (λ (z n : ℕ). z % 2 ^ n) (sym (number-drop at bytes all)) s2 in
-      masked (word / 2 ^ skip) size (omega (arith, W .high))
-      ∙ ap (λ (z : ℕ). z / 2 ^ skip % 2 ^ size) f
-      ∙ ap (λ (z : ℕ). z % 2 ^ size) (field y j skip)
-      ∙ ap (λ (n : ℕ). y / 2 ^ skip % 2 ^ n % 2 ^ size) s3
-      ∙ mod-mod-pow (y / 2 ^ skip) k size
-      ∙ ap (λ (z : ℕ). z % 2 ^ size) (shr-shr x (8 * at) skip ∙ ap (λ (n : ℕ). x / 2 ^ n) s4)
+pub second-place : (w p : ℕ) → 8 * ((w - 1) * p + (w - 1) / 2) + (w - 1) % 2 * 4 ≡ bucketBits w * (2 * p + 1)
+second-place w p = omega (arith, half-bits w (2 * p + 1), halved w p 1)
 
 -- ── the input ──
-module _ {s : Settings} {bytes : List ℕ} (I : Input s bytes) where
+module _ {w m : ℕ} {bytes : List ℕ} (I : Input w m bytes) where
   abbrev halves : ℕ
-  halves = (s .width - 1) * s .buckets
+  halves = (w - 1) * m
 
   length-is : length bytes ≡ (4 * halves + 7) / 8
-  unfolding packedLength
-  length-is = I .size ∙ ap (λ (z : ℕ). (z + 7) / 8) (half-bits (s .width) (s .buckets))
+  length-is = I .size ∙ ap (λ (z : ℕ). (z + 7) / 8) (half-bits w m)
 
   pub some-bytes : 1 ≤ length bytes
   some-bytes =
-      let L = laws s (I .settings) in
-      let e : 1 * 1 ≤ halves = mul-le-mul {n₁ = 1} {m₁ = 1} (omega (arith, L .width-low)) (L .some-bucket) in
+      let e : 1 * 1 ≤ halves = mul-le-mul {n₁ = 1} {m₁ = 1} (omega (arith, I .width .low)) (I .some) in
       omega (arith, length-is)
 
-  -- the bits of bucket b lie in the bytes
-  pub bucket-inside : (b : ℕ) → b < s .buckets → bucketBits (s .width) * (b + 1) ≤ 8 * length bytes
-  unfolding packedLength
-  bucket-inside b h =
-      let f : bucketBits (s .width) * (b + 1) ≡ bucketBits (s .width) * suc b = ap (λ (z : ℕ). bucketBits (s .width) * z) (add-one b) in
-      omega (arith, I .size, mul-le-mul-left (bucketBits (s .width)) h)
+  pub pair-inside : {many p : ℕ} → 2 * many ≤ m - 4 → p < many → (w - 1) * p + (w - 1) / 2 + 8 ≤ length bytes
+  pair-inside few h = omega (arith, I .size, ahead-within (I .width) m few h)
 
   -- ── the filling ──
   module _ (all : AllBytes bytes) where
     abbrev behind : ℕ
-    behind = numberFrom bytes / 2 ^ (bucketBits (s .width) * s .buckets)
+    behind = streamFrom w (numberFrom bytes) m
 
     pub filling-none : halves % 2 ≡ 0 → false ≡ not (eqb behind 0)
     filling-none e =
         let f : 4 * halves ≡ 8 * length bytes = omega (arith, length-is) in
-        let z : behind ≡ 0 = ap (λ (n : ℕ). numberFrom bytes / 2 ^ n) (half-bits (s .width) (s .buckets) ∙ f) ∙ div-eq-of-lt (number-below bytes all) in
+        let z : behind ≡ 0 = ap (λ (n : ℕ). numberFrom bytes / 2 ^ n) (half-bits w m ∙ f) ∙ div-eq-of-lt (number-below bytes all) in
         sym (ap not (eq-eqb behind 0 z))
 
     pub filling-last : halves % 2 ≢ 0 → leb 16 (getD bytes (length bytes - 1) 0) ≡ not (eqb behind 0)
@@ -106,7 +97,7 @@ module _ {s : Settings} {bytes : List ℕ} (I : Input s bytes) where
         let f : 4 * halves ≡ 8 * at + 4 = omega (arith, length-is) in
         let one : length (drop at bytes) ≡ 1 = omega (arith, length-drop at bytes, some-bytes) in
         let g : behind ≡ v / 16 =
-        ap (λ (k : ℕ). numberFrom bytes / 2 ^ k) (half-bits (s .width) (s .buckets) ∙ f) ∙ sym (shr-shr (numberFrom bytes) (8 * at) 4)
+        ap (λ (k : ℕ). numberFrom bytes / 2 ^ k) (half-bits w m ∙ f) ∙ sym (shr-shr (numberFrom bytes) (8 * at) 4)
         ∙ ap (λ (z : ℕ). z / 16) (number-drop at bytes all ∙ last-byte (drop at bytes) one ∙ getD-drop at bytes 0 0 ∙ ap (λ (k : ℕ). getD bytes k 0) (add-zero at)) in
         rw g (tested v)
       where
@@ -142,7 +133,7 @@ onward-twice l k (given m) = ap given (append-assoc l k m)
 
 module _ (w m x : ℕ) where
   abbrev from : ℕ → ℕ
-  from b = x / 2 ^ (bucketBits w * b)
+  from b = streamFrom w x b
 
   abbrev coming : ℕ → Answer (List ℕ)
   coming b = unpack w (m - b) (from b)
@@ -171,17 +162,12 @@ module _ (w m x : ℕ) where
       let k : m - m ≡ 0 = omega arith in
       ap coming e ∙ ap (λ (n : ℕ). unpack w n (from m)) k
 
--- l are the cells of the first b buckets
-pub record CellsRead (w m x b : ℕ) (l : List ℕ) : Type 0 where
-  pub upto : b ≤ m
-  pub size : length l ≡ 4 * b
-  pub onwards : onward l (coming w m x b) ≡ unpack w m x
-
+-- the cells of the first b buckets
 read-none : (w m x : ℕ) → CellsRead w m x 0 []
 read-none w m x = record { upto = omega arith; size = refl; onwards = onward-none (coming w m x 0) ∙ coming-all w m x }
 
 module _ {w m x b : ℕ} {l : List ℕ} (R : CellsRead w m x b l) where
-  module _ (more : b < m) {code : ℕ} (here : code ≡ from w m x b % 2 ^ bucketBits w) where
+  module _ (more : b < m) {code : ℕ} (here : code ≡ codeIn w x b) where
     here-is : (o : Option ℕ) → firstMet (codeChecks w code) ≡ o → onward l (unless o (onward (bucketFrom w code) (coming w m x (b + 1)))) ≡ unpack w m x
     here-is o e = ap (onward l) (sym (coming-next w m x b code more here ∙ ap (λ (o : Option ℕ). unless o (onward (bucketFrom w code) (coming w m x (b + 1)))) e)) ∙ R .onwards
 
@@ -203,16 +189,14 @@ module _ {w m x b : ℕ} {l : List ℕ} (R : CellsRead w m x b l) where
   read-all all said = ap given (sym (append-nil l)) ∙ read-end all false said
 
 -- ── the first pass counts the filled cells of the buckets so far ──
-pub record CellsCounted (w m x count b : ℕ) : Type 0 where
-  pub cells : List ℕ
-  pub read : CellsRead w m x b cells
-  pub counted : count ≡ filledCount cells
-
 pub counted-none : (w m x : ℕ) → CellsCounted w m x 0 0
 counted-none w m x = record { cells = []; read = read-none w m x; counted = refl }
 
 module _ {w m x count b : ℕ} (I : CellsCounted w m x count b) where
-  module _ (more : b < m) {code : ℕ} (here : code ≡ from w m x b % 2 ^ bucketBits w) {found : UnpackAnswer}
+  pub counted-few : count ≤ 4 * m
+  counted-few = omega (arith, I .counted, filled-laws .most (I .cells), I .read .size, I .read .upto)
+
+  module _ (more : b < m) {code : ℕ} (here : code ≡ codeIn w x b) {found : UnpackAnswer}
       (said : unpackIs found ≡ unless (firstMet (codeChecks w code)) (given (filledCount (bucketFrom w code)))) where
     pub counted-refused : (n : ℕ) → found ≡ UnpackAnswer.Refused n → unpackIs found ≡ countIn (unpack w m x)
     counted-refused n e = ap unpackIs e ∙ ap countIn (read-refused (I .read) more here n (by-check (firstMet (codeChecks w code)) _ (sym (ap unpackIs e) ∙ said)))
@@ -220,9 +204,6 @@ module _ {w m x count b : ℕ} (I : CellsCounted w m x count b) where
     module _ (n : ℕ) (e : found ≡ UnpackAnswer.Unpacked n) where
       passed : (firstMet (codeChecks w code) ≡ none) × (n ≡ filledCount (bucketFrom w code))
       passed = by-none (firstMet (codeChecks w code)) (sym (ap unpackIs e) ∙ said)
-
-      pub counted-few : count + n ≤ 4 * m
-      counted-few = omega (arith, I .counted, filled-laws .most (I .cells), I .read .size, passed .1, filled-laws .most (bucketFrom w code), four-length w code)
 
       pub counted-more : CellsCounted w m x (count + n) (b + 1)
       counted-more = record {
@@ -242,37 +223,29 @@ module _ {w m x count b : ℕ} (I : CellsCounted w m x count b) where
     counted-all e = ap given (I .counted) ∙ ap countIn (read-all (I .read) done (sym e ∙ said))
 
 -- ── the second pass stores the cells of a stream that passes ──
-pub record CellsStored (w m x : ℕ) (table : List ℕ) (b : ℕ) : Type 0 where
-  pub size : length table ≡ 4 * m
-  pub read : CellsRead w m x b (take (4 * b) table)
-
 pub stored-none : (w m x : ℕ) (table : List ℕ) → length table ≡ 4 * m → CellsStored w m x table 0
 stored-none w m x table e = record { size = e; read = read-none w m x }
 
 module _ {w m x : ℕ} {table : List ℕ} {b : ℕ} (passes : Passes (unpack w m x)) (I : CellsStored w m x table b) where
-  pub stored-within : 4 * b ≤ length table
-  stored-within = omega (arith, I .read .upto, I .size)
-
-  module _ (more : b < m) {code : ℕ} (here : code ≡ from w m x b % 2 ^ bucketBits w) where
-    pub stored-passes : firstMet (codeChecks w code) ≡ none
+  module _ (more : b < m) {code : ℕ} (here : code ≡ codeIn w x b) where
+    stored-passes : firstMet (codeChecks w code) ≡ none
     stored-passes = go (firstMet (codeChecks w code)) refl
       where
         go : (o : Option ℕ) → firstMet (codeChecks w code) ≡ o → firstMet (codeChecks w code) ≡ none
         go none e = e
         go (some n) e = absurd (subst Passes (sym (read-refused (I .read) more here n e)) passes)
 
-    pub stored-room : 4 ≤ length (drop (4 * b) table)
-    stored-room = omega (arith, length-drop (4 * b) table, I .size)
+    pub stored-row : code % 4096 < 3876
+    stored-row = packed-laws .bucket-passed w code stored-passes .0
 
-    pub stored-more : {f part : List ℕ} → f ≡ bucketFrom w code → part ≡ f ++ drop 4 (midOf (4 * b) (length table - 4 * b) table)
-        → length part ≡ length (midOf (4 * b) (length table - 4 * b) table) → CellsStored w m x (putMid (4 * b) (length table - 4 * b) table part) (b + 1)
-    stored-more {f} {part} four wrote kept =
-        let k : 4 * (b + 1) ≡ 4 * b + 4 = omega arith in
-        let e : take (4 * (b + 1)) (putMid (4 * b) (length table - 4 * b) table part) ≡ take (4 * b) table ++ bucketFrom w code =
-        rw k (put-front table (bucketFrom w code) (drop 4 (drop (4 * b) table)) _ (4 * b) 4 (four-length w code) stored-within
-        (tail-put table (4 * b) 4 (bucketFrom w code) part (wrote ∙ ap (λ (l : List ℕ). l ++ drop 4 (midOf (4 * b) (length table - 4 * b) table)) four))) in
+    pub stored-more : (at : ℕ) {next : List ℕ} → at ≡ 4 * b → next ≡ take at table ++ (bucketFrom w code ++ drop (at + 4) table) → length next ≡ length table
+        → CellsStored w m x next (b + 1)
+    stored-more at {next} place wrote kept =
+        let k : 4 * (b + 1) ≡ at + 4 = omega arith in
+        let e : take (4 * (b + 1)) next ≡ take (4 * b) table ++ bucketFrom w code =
+        rw (k, ← place) (put-front table (bucketFrom w code) (drop (at + 4) table) next at 4 (four-length w code) (omega (arith, I .size)) wrote) in
         record {
-          size = same-len-mid (4 * b) (length table - 4 * b) table part kept ∙ I .size;
+          size = kept ∙ I .size;
           read = subst (CellsRead w m x (b + 1)) (sym e) (read-more (I .read) more here stored-passes);
         }
 
@@ -287,12 +260,16 @@ module _ {w m x : ℕ} {table : List ℕ} {b : ℕ} (passes : Passes (unpack w m
       go true e = absurd (subst Passes (sym (read-end (I .read) end true e)) passes)
 
 -- ── the whole call, by what the first pass answers ──
-module _ {s : Settings} {bytes t : List ℕ} (S : Sound s t) (I : Input s bytes) where
+module _ {s : Settings} {bytes t : List ℕ} (S : Sound s t) (I : Input (s .width) (s .buckets) bytes) where
   abbrev stream : Answer (List ℕ)
   stream = unpack (s .width) (s .buckets) (numberFrom bytes)
 
+  goes-on : keeping t (withCount stream) ≡ readPacked s bytes t
+  unfolding packedLength
+  goes-on = packed-laws .read-goes-on s bytes t S (I .size)
+
   pub call-stops : {a : UnpackAnswer} (n : ℕ) → a ≡ UnpackAnswer.Refused n → unpackIs a ≡ countIn stream → outcome (unpackIs a) t ≡ readPacked s bytes t
-  call-stops n e h = ap (λ (b : UnpackAnswer). outcome (unpackIs b) t) e ∙ go stream (sym (ap unpackIs e) ∙ h) ∙ packed-laws .read-goes-on s bytes t S (I .size)
+  call-stops n e h = ap (λ (b : UnpackAnswer). outcome (unpackIs b) t) e ∙ go stream (sym (ap unpackIs e) ∙ h) ∙ goes-on
     where
       go : (u : Answer (List ℕ)) → refused n ≡ countIn u → outcome (refused n) t ≡ keeping t (withCount u)
       go (refused k) f = ap (λ (x : Answer ℕ). outcome x t) f
@@ -309,4 +286,4 @@ module _ {s : Settings} {bytes t : List ℕ} (S : Sound s t) (I : Input s bytes)
       → outcome (given n) o ≡ readPacked s bytes t
   call-stores n {o} e h f =
       ap (λ (x : Answer ℕ). outcome x o) (sym (ap unpackIs e) ∙ h ∙ ap countIn (sym f))
-      ∙ ap (λ (u : Answer (List ℕ)). keeping t (withCount u)) f ∙ packed-laws .read-goes-on s bytes t S (I .size)
+      ∙ ap (λ (u : Answer (List ℕ)). keeping t (withCount u)) f ∙ goes-on

@@ -1,11 +1,11 @@
--- The writer's loop: two buckets take whole bytes, and what is out, continued by the bytes of the buckets still to come, is what the
+-- The writer's pairs: two buckets take whole bytes, and what is out, continued by the bytes of the buckets still to come, is what the
 -- whole stream gives.
 -- Assumes nothing.
 use mathlib.Core.Path.{_≡_, refl, sym, ap, ap₂, _∙_, subst}
+use mathlib.Core.Bool.{Bool, true}
 use mathlib.Core.List.{List, _++_, append-assoc, append-nil}
 use Prim.Native.Nat.{ℕ, _+_, _*_, _-_, _/_, _%_, _^_, _≤_, _<_}
-use native.Mathlib.Nat.{le-refl, mul-comm, mul-suc, mul-add, mul-assoc, mul-le-mul-left, add-mul-div-left, lt-of-lt-of-le}
-use native.Mathlib.Numerals.{add-one}
+use native.Mathlib.Nat.{le-refl, mul-comm, mul-add, mul-assoc, mul-le-mul-left, add-mul-div-left, lt-of-lt-of-le}
 use native.Mathlib.Omega.{arith}
 use borrow.Rule.Slice.PartMut.{midOf, putMid}
 use lib.ListN.{length, take, drop, length-append, length-take, length-drop, drop-of-length-le, take-append-drop}
@@ -16,15 +16,14 @@ use Rattle.lemmas.proofs.Digits.{digit-below, digit-rest, quotient-below}
 use Rattle.lemmas.proofs.Bytes.{bytes-length, bytes-split, bytes-low}
 use Rattle.refusals.specs.Outcomes.{refused, given, outcome}
 use Rattle.index.specs.declared.Settings.{Settings}
+use Rattle.index.proofs.Laws.{laws}
 use Rattle.packed_form.specs.Writer.{sortBuckets, bucketBits, streamOf, packedLength, packedOf, writePacked}
 use Rattle.packed_form.specs.RoundTrip.{Packable}
 use Rattle.calls.proofs.Laws.{writer-laws}
 use Rattle.packed_form.proofs.Laws.{packed-laws}
-use Rattle.packed.specs.Internal.{Width, streamAt, BucketAt, PairFits, PairPut}
-use Rattle.packed.proofs.Bytes.{half-bits, half-fits, put-front, put-rest, tail-put}
-
-abbrev pub bytesFor : ℕ → ℕ → ℕ
-bytesFor w m = (bucketBits w * m + 7) / 8
+use Rattle.rows.specs.Rows.{larger}
+use Rattle.packed.specs.Internal.{Width, bytesFor, streamAt, BucketAsked, BucketAt, PairFits, PairPut, RunFits, formed, RunPut}
+use Rattle.packed.proofs.Bytes.{half-bits, half-fits, halved, pairs-within, ahead-within, width-of, put-front, put-rest, tail-put}
 
 size-is : (w : ℕ) → bucketBits w ≡ 4 * (w - 1)
 unfolding bucketBits
@@ -57,7 +56,7 @@ module _ (out : List ℕ) (at k word : ℕ) (within : at + k ≤ length out) (pa
   stored-size = ap length next-is ∙ simp (length-append, length-take, length-drop, bytes-length) (omega arith)
 
 -- ── two buckets ──
-module _ {w one two at room : ℕ} {out : List ℕ} (F : PairFits w one two at room out) where
+module _ {w one two at room : ℕ} {words : Bool} {out : List ℕ} (F : PairFits w one two at room words out) where
   abbrev half : ℕ
   half = (w - 1) / 2
 
@@ -117,69 +116,47 @@ module _ {w one two at room : ℕ} {out : List ℕ} (F : PairFits w one two at r
       }
 
   -- as words, whose bytes past the two buckets fit the room, or byte by byte
-  pub pair-by-words : at + half + 8 ≤ room → (p q : List ℕ) → p ≡ bytesOf 8 one ++ drop 8 (midOf at (length out - at) out) → q ≡ bytesOf 8 rest ++ drop 8 (tail p)
+  pub pair-by-words : words ≡ true → (p q : List ℕ) → p ≡ bytesOf 8 one ++ drop 8 (midOf at (length out - at) out) → q ≡ bytesOf 8 rest ++ drop 8 (tail p)
       → PairPut w one two at room out (whole p q)
-  pair-by-words h = pair-put 8 8 (omega (arith, F .width .high)) (omega (arith, F .width .high)) (omega arith) h
+  pair-by-words e = pair-put 8 8 (omega (arith, F .width .high)) (omega (arith, F .width .high)) (omega (arith, F .ahead e)) (F .ahead e)
 
   pub pair-by-bytes : (p q : List ℕ) → p ≡ bytesOf half one ++ drop half (midOf at (length out - at) out)
       → q ≡ bytesOf (w - 1 - half) rest ++ drop (w - 1 - half) (tail p) → PairPut w one two at room out (whole p q)
   pair-by-bytes = pair-put half (w - 1 - half) (le-refl half) (le-refl (w - 1 - half)) (omega (arith, F .inside)) (omega (arith, F .inside))
 
--- ── after b buckets, a whole number of bytes ──
-pub record Paired (w m : ℕ) (c out₀ out : List ℕ) (at b : ℕ) : Type 0 where
-  pub upto : b ≤ m
-  pub place : 8 * at ≡ bucketBits w * b
-  pub size : length out ≡ length out₀
-  pub ahead : take at out ++ bytesOf (bytesFor w m - at) (streamAt w c (4 * b)) ≡ bytesOf (bytesFor w m) (streamOf w (sortBuckets c))
-  pub behind : drop (bytesFor w m) out ≡ drop (bytesFor w m) out₀
+-- ── a pair more of a run ──
+module _ {counts : List ℕ} {w : ℕ} {c : List ℕ} {room from to : ℕ} {words : Bool} {out₀ : List ℕ} (F : RunFits counts w c room from to words out₀) {p : ℕ} (more : p < to) where
+  abbrev at : ℕ
+  at = (w - 1) * p
 
-pub paired-none : (w m : ℕ) (c out : List ℕ) → Paired w m c out out 0 0
-paired-none w m c out =
-    let e : bytesFor w m - 0 ≡ bytesFor w m = omega arith in
-    record {
-      upto = omega arith;
-      place = omega arith;
-      size = refl;
-      ahead = ap (λ (k : ℕ). bytesOf k (streamOf w (sortBuckets c))) e;
-      behind = refl;
-    }
+  past-pair : (w - 1) * (p + 1) ≡ at + (w - 1)
+  past-pair = mul-add (w - 1) p 1 ∙ omega arith
 
-module _ {w m : ℕ} {c out₀ out : List ℕ} {at b : ℕ} (W : Width w) (enough : bytesFor w m ≤ length out₀) (I : Paired w m c out₀ out at b) where
-  -- the bits of i buckets are among those of m
-  bits-within : (i : ℕ) → i ≤ m → bucketBits w * i ≤ 8 * bytesFor w m
-  bits-within i h = omega (arith, mul-le-mul-left (bucketBits w) h)
+  pub next-within : at + (w - 1) ≤ room
+  next-within =
+      let e : p + 1 ≤ to = omega arith in
+      omega (arith, past-pair, F .inside, mul-le-mul-left (w - 1) e)
 
-  more-bits : (i : ℕ) → bucketBits w * (i + 1) ≡ bucketBits w * i + bucketBits w
-  more-bits i = ap (λ (z : ℕ). bucketBits w * z) (add-one i) ∙ mul-suc (bucketBits w) i
+  pub run-asked : (i : ℕ) → i + 4 ≤ 8 * to → BucketAsked counts w c i
+  run-asked i h = record { counts-are = F .counts-are; width = F .width; inside = omega (arith, F .cells); fits = F .fits }
 
-  pub at-within : at ≤ length out
-  at-within = omega (arith, I .place, I .size, bits-within b (I .upto))
-
-  -- ── two buckets more ──
-  module _ (more : b + 1 < m) {one two room : ℕ} (few : m ≤ 65536) (all : room ≡ bytesFor w m) (B : BucketAt w c (4 * b) one) (C : BucketAt w c (4 * b + 4) two) where
-    two-more : bucketBits w * (b + 2) ≡ bucketBits w * b + 2 * bucketBits w
-    two-more =
-        let e : b + 2 ≡ b + 1 + 1 = omega arith in
-        ap (λ (z : ℕ). bucketBits w * z) e ∙ more-bits (b + 1) ∙ omega (arith, more-bits b)
-
-    next-within : at + (w - 1) ≤ bytesFor w m
-    next-within = omega (arith, I .place, size-is w, two-more, bits-within (b + 2) (omega arith))
-
-    pub pair-fits : PairFits w one two at room out
-    pair-fits = record {
-      width = W;
+  module _ {one two : ℕ} (B : BucketAt w c (8 * p) one) (C : BucketAt w c (8 * p + 4) two) where
+    pub pair-fits : {out : List ℕ} → room ≤ length out → PairFits w one two at room words out
+    pair-fits h = record {
+      width = F .width;
       first = B .below;
       second = C .below;
-      inside = omega (arith, all, next-within);
-      enough = omega (arith, all, enough, I .size);
-      few = omega (arith, all, half-bits w m, half-fits w m (W .high) few);
+      inside = next-within;
+      enough = h;
+      few = F .few;
+      ahead = λ e. F .ahead e p more;
     }
 
     abbrev pair : ℕ
     pair = one + 2 ^ bucketBits w * two
 
     abbrev later : ℕ
-    later = streamAt w c (4 * b + 4 + 4)
+    later = streamAt w c (8 * p + 4 + 4)
 
     powers2 : 2 ^ bucketBits w * 2 ^ bucketBits w ≡ 2 ^ (8 * (w - 1))
     powers2 =
@@ -189,7 +166,7 @@ module _ {w m : ℕ} {c out₀ out : List ℕ} {at b : ℕ} (W : Width w) (enoug
     pair-below : pair < 2 ^ (8 * (w - 1))
     pair-below = subst (λ (z : ℕ). pair < z) powers2 (digit-below (2 ^ bucketBits w) (2 ^ bucketBits w) one two (B .below) (C .below))
 
-    coming : streamAt w c (4 * b) ≡ pair + 2 ^ (8 * (w - 1)) * later
+    coming : streamAt w c (8 * p) ≡ pair + 2 ^ (8 * (w - 1)) * later
     coming =
         B .first
         ∙ ap (λ (z : ℕ). one + 2 ^ bucketBits w * z) (C .first)
@@ -197,59 +174,100 @@ module _ {w m : ℕ} {c out₀ out : List ℕ} {at b : ℕ} (W : Width w) (enoug
         ∙ ap (λ (z : ℕ). 2 ^ bucketBits w * two + z) (sym (mul-assoc (2 ^ bucketBits w) (2 ^ bucketBits w) later) ∙ ap (λ (z : ℕ). z * later) powers2))
         ∙ omega arith
 
-    split : bytesOf (bytesFor w m - at) (streamAt w c (4 * b)) ≡ bytesOf (w - 1) pair ++ bytesOf (bytesFor w m - (at + (w - 1))) later
+    split : bytesOf (room - at) (streamAt w c (8 * p)) ≡ bytesOf (w - 1) pair ++ bytesOf (room - (at + (w - 1))) later
     split =
-        let e : bytesFor w m - at ≡ w - 1 + (bytesFor w m - (at + (w - 1))) = omega (arith, next-within) in
+        let e : room - at ≡ w - 1 + (room - (at + (w - 1))) = omega (arith, next-within) in
         ap₂ bytesOf e coming
-        ∙ bytes-split (w - 1) (bytesFor w m - (at + (w - 1))) (pair + 2 ^ (8 * (w - 1)) * later)
-        ∙ ap₂ _++_ (bytes-low (w - 1) pair later) (ap (bytesOf (bytesFor w m - (at + (w - 1)))) (digit-rest (2 ^ (8 * (w - 1))) pair later pair-below))
+        ∙ bytes-split (w - 1) (room - (at + (w - 1))) (pair + 2 ^ (8 * (w - 1)) * later)
+        ∙ ap₂ _++_ (bytes-low (w - 1) pair later) (ap (bytesOf (room - (at + (w - 1)))) (digit-rest (2 ^ (8 * (w - 1))) pair later pair-below))
 
-    pub paired-more : {next : List ℕ} → length next ≡ length out → PairPut w one two at room out next → Paired w m c out₀ next (at + (w - 1)) (b + 2)
-    paired-more {next} same P =
-        let eight : 4 * (b + 2) ≡ 4 * b + 4 + 4 = omega arith in
-        record {
-          upto = omega arith;
-          place = omega (arith, I .place, size-is w, two-more);
-          size = same ∙ I .size;
-          ahead = rw (eight, P .front, append-assoc, ← split) (I .ahead);
-          behind = subst (λ (k : ℕ). drop k next ≡ drop k out) all (P .past) ∙ I .behind;
-        }
+    pub run-more : {out next : List ℕ} → RunPut w c room from out₀ p out → PairPut w one two at room out next → RunPut w c room from out₀ (p + 1) next
+    run-more R P =
+        let eight : 8 * (p + 1) ≡ 8 * p + 4 + 4 = omega arith in
+        record { front = rw (past-pair, eight, P .front, append-assoc, ← split) (R .front); past = P .past ∙ R .past }
 
-  -- ── one bucket that is left over ──
-  module _ (left : b < m) (no-more : m ≤ b + 1) (cells : length c ≡ 4 * m) {one : ℕ} (B : BucketAt w c (4 * b) one) where
-    abbrev last : ℕ
-    last = (w - 1 + 1) / 2
+-- ── all buckets ──
+module _ {s : Settings} {c : List ℕ} (P : Packable s c) where
+  abbrev w : ℕ
+  w = s .width
 
-    last-place : at + last ≡ bytesFor w m
-    last-place =
-        let e : m ≡ b + 1 = omega arith in
-        omega (arith, I .place, size-is w, more-bits b, ap (λ (z : ℕ). bucketBits w * z) e)
+  abbrev m : ℕ
+  m = s .buckets
 
-    pub last-room : last ≤ length (drop at out)
-    last-room = omega (arith, length-drop at out, I .size, last-place)
+  W : Width w
+  W = width-of s (P .sound .settings)
 
-    nothing-after : streamAt w c (4 * b + 4) ≡ 0
-    unfolding streamOf sortBuckets
-    nothing-after = ap (λ (l : List ℕ). streamOf w (sortBuckets l)) (drop-of-length-le c {i = 4 * b + 4} (omega arith))
+  module _ {room : ℕ} (all : room ≡ packedLength s) where
+    room-is : room ≡ bytesFor w m
+    unfolding packedLength
+    room-is = all
 
-    pub paired-last : (part : List ℕ) → part ≡ bytesOf last one ++ drop last (midOf at (length out - at) out)
-        → putMid at (length out - at) out part ≡ bytesOf (bytesFor w m) (streamOf w (sortBuckets c)) ++ drop (bytesFor w m) out₀
-    paired-last part wrote =
-        let e : bytesFor w m - at ≡ last = omega (arith, last-place) in
-        let f : streamAt w c (4 * b) ≡ one = B .first ∙ ap (λ (z : ℕ). one + 2 ^ bucketBits w * z) nothing-after ∙ omega arith in
-        tail-put out at last (bytesOf last one) part wrote ∙ sym (append-assoc (take at out) (bytesOf last one) (drop last (drop at out)))
-        ∙ ap₂ _++_ (ap (λ (l : List ℕ). take at out ++ l) (sym (ap₂ bytesOf e f)) ∙ I .ahead)
-        (drop-drop last at out ∙ ap (λ (k : ℕ). drop k out) last-place ∙ I .behind)
+    room-few : room < 2 ^ 32
+    room-few = omega (arith, room-is, half-bits w m, half-fits w m (W .high) (laws s (P .sound .settings) .few-buckets))
 
-  -- ── no bucket left ──
-  pub paired-all : m ≤ b → out ≡ bytesOf (bytesFor w m) (streamOf w (sortBuckets c)) ++ drop (bytesFor w m) out₀
-  paired-all all =
-      let e : m ≡ b = omega (arith, I .upto) in
-      let f : bytesFor w m ≡ at = omega (arith, I .place, ap (λ (z : ℕ). bucketBits w * z) e) in
-      let g : bytesFor w m - at ≡ 0 = omega arith in
-      sym (take-append-drop at out)
-      ∙ ap₂ _++_ (sym (append-nil (take at out)) ∙ sym (ap (λ (k : ℕ). take at out ++ bytesOf k (streamAt w c (4 * b))) g) ∙ I .ahead)
-      (ap (λ (k : ℕ). drop k out) (sym f) ∙ I .behind)
+    pub run-fits : {counts out : List ℕ} (from to : ℕ) (words : Bool) → counts ≡ larger → room ≤ length out → from ≤ to → 2 * to ≤ m
+        → (words ≡ true → 2 * to ≤ m - 4) → RunFits counts w c room from to words out
+    run-fits from to words e enough order within ahead = record {
+      counts-are = e;
+      width = W;
+      fits = P .fits;
+      cells = omega (arith, P .sound .size);
+      order = order;
+      inside = omega (arith, room-is, pairs-within w m to within);
+      enough = enough;
+      few = room-few;
+      ahead = λ t p h. omega (arith, room-is, ahead-within W m (ahead t) h);
+    }
+
+    -- after both runs
+    module _ {many : ℕ} {out₀ mid out : List ℕ} (R : RunPut w c room 0 out₀ many mid) (Q : RunPut w c room many mid (m / 2) out) where
+      abbrev end : ℕ
+      end = (w - 1) * (m / 2)
+
+      stream-out : formed w c room (m / 2) out ≡ bytesOf room (streamOf w (sortBuckets c))
+      stream-out =
+          let e : (w - 1) * 0 ≡ 0 = omega arith in
+          let f : room - 0 ≡ room = omega arith in
+          Q .front ∙ R .front ∙ rw (e, f) refl
+
+      past : drop room out ≡ drop room out₀
+      past = Q .past ∙ R .past
+
+      whole-form : bytesOf room (streamOf w (sortBuckets c)) ++ drop room out₀ ≡ packedOf s c ++ drop (packedLength s) out₀
+      unfolding packedOf
+      whole-form = ap (λ (k : ℕ). bytesOf k (streamOf w (sortBuckets c)) ++ drop k out₀) all
+
+      -- one bucket that is left over
+      module _ (odd : m % 2 ≡ 1) {one : ℕ} (B : BucketAt w c (8 * (m / 2)) one) where
+        last-place : end + w / 2 ≡ room
+        last-place =
+            let e : m ≡ 2 * (m / 2) + 1 = omega arith in
+            omega (arith, room-is, half-bits w m, ap (λ (z : ℕ). (w - 1) * z) e, halved w (m / 2) 1, W .low)
+
+        pub last-room : room ≤ length out → w / 2 ≤ length (drop end out)
+        last-room h = omega (arith, length-drop end out, last-place)
+
+        nothing-after : streamAt w c (8 * (m / 2) + 4) ≡ 0
+        unfolding streamOf sortBuckets
+        nothing-after = ap (λ (l : List ℕ). streamOf w (sortBuckets l)) (drop-of-length-le c {i = 8 * (m / 2) + 4} (omega (arith, P .sound .size)))
+
+        pub run-last : (part : List ℕ) → part ≡ bytesOf (w / 2) one ++ drop (w / 2) (midOf end (length out - end) out)
+            → putMid end (length out - end) out part ≡ packedOf s c ++ drop (packedLength s) out₀
+        run-last part wrote =
+            let e : room - end ≡ w / 2 = omega (arith, last-place) in
+            let f : streamAt w c (8 * (m / 2)) ≡ one = B .first ∙ ap (λ (z : ℕ). one + 2 ^ bucketBits w * z) nothing-after ∙ omega arith in
+            tail-put out end (w / 2) (bytesOf (w / 2) one) part wrote ∙ sym (append-assoc (take end out) (bytesOf (w / 2) one) (drop (w / 2) (drop end out)))
+            ∙ ap₂ _++_ (ap (λ (l : List ℕ). take end out ++ l) (sym (ap₂ bytesOf e f)) ∙ stream-out) (drop-drop (w / 2) end out ∙ ap (λ (k : ℕ). drop k out) last-place ∙ past) ∙ whole-form
+
+      -- or none
+      pub run-all : (m % 2 ≡ 1 → ⊥) → out ≡ packedOf s c ++ drop (packedLength s) out₀
+      run-all even =
+          let e : m ≡ 2 * (m / 2) + 0 = omega arith in
+          let f : room ≡ end = omega (arith, room-is, half-bits w m, ap (λ (z : ℕ). (w - 1) * z) e, halved w (m / 2) 0) in
+          let g : room - end ≡ 0 = omega arith in
+          sym (take-append-drop end out)
+          ∙ ap₂ _++_ (sym (append-nil (take end out)) ∙ sym (ap (λ (k : ℕ). take end out ++ bytesOf k (streamAt w c (8 * (m / 2)))) g) ∙ stream-out)
+          (ap (λ (k : ℕ). drop k out) (sym f) ∙ past) ∙ whole-form
 
 -- ── the whole call ──
 pub call-short : (s : Settings) (c out : List ℕ) → Packable s c → length out < packedLength s → outcome (refused 16) out ≡ writePacked s c out

@@ -3,9 +3,9 @@ ghost use mathlib.Core.Path.{_≡_};
 ghost use mathlib.Core.Bool.{not, cond};
 ghost use mathlib.Core.List.{[], _∷_, _++_};
 ghost use mathlib.Core.Option.{none};
-ghost use Prim.Native.Nat.{_+_, _*_, _/_, _%_, _^_, _<_, _≤_, min, max};
+ghost use Prim.Native.Nat.{_+_, _*_, _-_, _/_, _%_, _^_, _<_, _≤_, min, max};
 ghost use lib.Dec.{eqb};
-ghost use lib.ListN.{length, getD, drop};
+ghost use lib.ListN.{length, getD, take, drop};
 ghost use Rattle.lemmas.specs.Bytes.{bytesOf, numberFrom};
 ghost use Rattle.refusals.specs.Checks.{firstMet};
 ghost use Rattle.refusals.specs.Outcomes.{given, unless, outcome};
@@ -17,7 +17,7 @@ ghost use Rattle.packed_form.specs.Writer.{sort4, codeOf, bucketBits, packedLen
 ghost use Rattle.packed_form.specs.Reader.{bucketFrom, descends, codeChecks, unpack, readPacked};
 ghost use Rattle.packed_form.specs.RoundTrip.{Packable};
 ghost use Rattle.packed.specs.Answers.{packIs, unpackIs};
-ghost use Rattle.packed.specs.Internal.{Width, BucketAsked, BucketAt, PairFits, PairPut, Input, Passes, countIn};
+ghost use Rattle.packed.specs.Internal.{Width, BucketAsked, BucketAt, PairFits, PairPut, RunFits, RunPut, Input, codeIn, countIn, CellsCounted, CellsStored, Storing};
 use index::Settings;
 
 // The byte count, or the number of the refusal.
@@ -99,6 +99,20 @@ fn code_of(counts: &[u16; 48], w: u32, a: u64, b: u64, c: u64, d: u64) -> u64
     four * 4096 + row
 }
 
+// The same, with the usual widths as literals: the shifts are then by constants.
+fn code_by(counts: &[u16; 48], w: u32, a: u64, b: u64, c: u64, d: u64) -> u64
+    requires { ⌜ (now counts ≡ larger) × Width w × Ascends a b c d × (d < 2 ^ w) ⌝ }
+    ensures { λ r. ⌜ r ≡ codeOf w a b c d ⌝ }
+{
+    if w == 16 {
+        return code_of(counts, 16, a, b, c, d);
+    }
+    if w == 12 {
+        return code_of(counts, 12, a, b, c, d);
+    }
+    code_of(counts, w, a, b, c, d)
+}
+
 // The number of the bucket that starts at a cell, once it is sorted.
 fn bucket_code(counts: &[u16; 48], w: u32, table: &[u16], at: usize) -> u64
     requires { ⌜ BucketAsked (now counts) w (now table) at ⌝ }
@@ -109,7 +123,7 @@ fn bucket_code(counts: &[u16; 48], w: u32, table: &[u16], at: usize) -> u64
     let c = table[at + 2] as u64;
     let d = table[at + 3] as u64;
     let f = sorted(a, b, c, d);
-    code_of(counts, w, f[0], f[1], f[2], f[3])
+    code_by(counts, w, f[0], f[1], f[2], f[3])
 }
 
 // The low bytes of a word, to the start of a part of the output.
@@ -141,10 +155,10 @@ fn emit_word(part: &mut [u8], word: u64)
     part[7] = (word / 72057594037927936) as u8;
 }
 
-// Two buckets to the output: they take w − 1 whole bytes. While there is room, words are stored, whose
-// bytes past the two buckets belong to later ones; what stands past the room stays.
-fn write_pair(out: &mut [u8], room: usize, at: usize, w: u32, one: u64, two: u64)
-    requires { ⌜ PairFits w one two at room (now out) ⌝ }
+// Two buckets to the output: they take w − 1 whole bytes. As words, where these fit the room: their bytes
+// past the two buckets belong to later ones. What stands past the room stays.
+fn write_pair(out: &mut [u8], room: usize, at: usize, w: u32, one: u64, two: u64, words: bool)
+    requires { ⌜ PairFits w one two at room words (now out) ⌝ }
     ensures { λ r. ⌜ PairPut w one two at room (now (out .entry)) (now (out .exit)) ⌝ }
 {
     let half = (w - 1) / 2;
@@ -153,7 +167,7 @@ fn write_pair(out: &mut [u8], room: usize, at: usize, w: u32, one: u64, two: u64
     let last = (w - 1 - half) as usize;
     let next = at + first;
     let rest = (one >> (half * 8)) + (two << skip);
-    if next + 8 <= room {
+    if words {
         emit_word(&mut out[at..], one);
         emit_word(&mut out[next..], rest);
         return;
@@ -162,46 +176,80 @@ fn write_pair(out: &mut [u8], room: usize, at: usize, w: u32, one: u64, two: u64
     emit(&mut out[next..], rest, last);
 }
 
-// Every bucket, sorted, to the output, two at a time.
+// How many pairs of buckets have two pairs after them. Three pairs take nine bytes or more, so that a word
+// that starts in the second bucket of such a pair ends in the form.
+fn ahead(m: usize) -> usize
+    ensures { λ r. ⌜ r ≡ (m - 4) / 2 ⌝ }
+{
+    if m < 4 { 0 } else { (m - 4) / 2 }
+}
+
+// The pairs from one to another, sorted, to the output.
+fn write_run(
+    counts: &[u16; 48],
+    w: u32,
+    table: &[u16],
+    out: &mut [u8],
+    room: usize,
+    from: usize,
+    to: usize,
+    words: bool,
+)
+    requires { ⌜ RunFits (now counts) w (now table) room from to words (now out) ⌝ }
+    ensures { λ r. ⌜ RunPut w (now (table .entry)) room from (now (out .entry)) to (now (out .exit)) ⌝ }
+{
+    let step = (w - 1) as usize;
+    let mut p = from;
+    while p < to {
+        let at = step * p;
+        let one = bucket_code(counts, w, table, 8 * p);
+        let two = bucket_code(counts, w, table, 8 * p + 4);
+        write_pair(out, room, at, w, one, two, words);
+        p += 1;
+    }
+}
+
+// Every bucket, sorted, to the output: two at a time, and by words as far as these fit. Only a table of one
+// bucket has none to go with it.
 fn write_buckets(s: Settings, table: &[u16], out: &mut [u8]) -> usize
     requires { ⌜ Packable s (now table) × (packedLength s ≤ length (now out)) ⌝ }
     ensures { λ r. ⌜ (r ≡ packedLength s) × (now (out .exit) ≡ packedOf s (now (table .entry)) ++ drop (packedLength s) (now (out .entry))) ⌝ }
 {
     let w = s.width;
     let m = s.buckets as usize;
-    let step = (w - 1) as usize;
     let room = packed_length(s);
     let counts = rows::counts();
-    let mut at = 0;
-    let mut b = 0;
-    while b + 1 < m {
-        let one = bucket_code(&counts, w, table, 4 * b);
-        let two = bucket_code(&counts, w, table, 4 * b + 4);
-        write_pair(out, room, at, w, one, two);
-        at += step;
-        b += 2;
-    }
-    if b < m {
-        let one = bucket_code(&counts, w, table, 4 * b);
-        let last = (step + 1) / 2;
-        emit(&mut out[at..], one, last);
+    let pairs = m / 2;
+    let many = ahead(m);
+    write_run(&counts, w, table, out, room, 0, many, true);
+    write_run(&counts, w, table, out, room, many, pairs, false);
+    if m % 2 == 1 {
+        let at = ((w - 1) as usize) * pairs;
+        let one = bucket_code(&counts, w, table, 8 * pairs);
+        emit(&mut out[at..], one, (w / 2) as usize);
         return room;
     }
     room
 }
 
-// Whether some cell does not fit the width: what stands above it is added up over all cells.
+fn higher(x: u16, y: u16) -> u16
+    ensures { λ r. ⌜ r ≡ max x y ⌝ }
+{
+    if x < y { y } else { x }
+}
+
+// Whether some cell does not fit the width: the highest tells.
 fn too_wide(w: u32, table: &[u16]) -> bool
-    requires { ⌜ Width w × (length (now table) ≤ 262144) ⌝ }
+    requires { ⌜ Width w ⌝ }
     ensures { λ r. ⌜ r ≡ anyFrom (2 ^ w) (now (table .entry)) ⌝ }
 {
-    let mut over = 0u32;
+    let mut top = 0;
     let mut i = 0;
     while i < table.len() {
-        over += (table[i] as u32) >> w;
+        top = higher(top, table[i]);
         i += 1;
     }
-    over != 0
+    (top as u32) >= (1u32 << w)
 }
 
 // How many bytes the buckets take.
@@ -252,24 +300,28 @@ fn byte_or(bytes: &[u8], i: usize) -> u8
     if i < bytes.len() { bytes[i] } else { 0 }
 }
 
-// The number of the eight bytes from a place on, or of as many as there are. Where there are eight, their
-// reads become one.
+// The number of the eight bytes from a place on: in a row, their reads become one.
+fn word_ahead(bytes: &[u8], at: usize) -> u64
+    requires { ⌜ at + 8 ≤ length (now bytes) ⌝ }
+    ensures { λ r. ⌜ r ≡ numberFrom (drop at (now (bytes .entry))) % 2 ^ 64 ⌝ }
+{
+    number(
+        bytes[at],
+        bytes[at + 1],
+        bytes[at + 2],
+        bytes[at + 3],
+        bytes[at + 4],
+        bytes[at + 5],
+        bytes[at + 6],
+        bytes[at + 7],
+    )
+}
+
+// The same where there may be fewer than eight.
 fn word_at(bytes: &[u8], at: usize) -> u64
     requires { ⌜ at < 2 ^ 32 ⌝ }
     ensures { λ r. ⌜ r ≡ numberFrom (drop at (now (bytes .entry))) % 2 ^ 64 ⌝ }
 {
-    if at + 8 <= bytes.len() {
-        return number(
-            bytes[at],
-            bytes[at + 1],
-            bytes[at + 2],
-            bytes[at + 3],
-            bytes[at + 4],
-            bytes[at + 5],
-            bytes[at + 6],
-            bytes[at + 7],
-        );
-    }
     number(
         byte_or(bytes, at),
         byte_or(bytes, at + 1),
@@ -284,8 +336,8 @@ fn word_at(bytes: &[u8], at: usize) -> u64
 
 // The number of bucket b, from the bytes in which it lies.
 fn code_at(w: u32, bytes: &[u8], b: usize) -> u64
-    requires { ⌜ Width w × (b < 65536) × (bucketBits w * (b + 1) ≤ 8 * length (now bytes)) ⌝ }
-    ensures { λ r. ⌜ r ≡ numberFrom (now (bytes .entry)) / 2 ^ (bucketBits w * b) % 2 ^ bucketBits w ⌝ }
+    requires { ⌜ Width w × (b < 65536) ⌝ }
+    ensures { λ r. ⌜ r ≡ codeIn w (numberFrom (now (bytes .entry))) b ⌝ }
 {
     let half = ((w - 1) as usize) * b;
     let at = half / 2;
@@ -293,6 +345,30 @@ fn code_at(w: u32, bytes: &[u8], b: usize) -> u64
     let size = 4 * (w - 1);
     let word = word_at(bytes, at);
     (word >> skip) & ((1u64 << size) - 1)
+}
+
+// The numbers of two buckets.
+struct Pair {
+    one: u64,
+    two: u64,
+}
+
+// The numbers of pair p, where a word fits that starts in its second bucket.
+fn pair_ahead(w: u32, bytes: &[u8], p: usize) -> Pair
+    requires { ⌜ Width w × ((w - 1) * p + (w - 1) / 2 + 8 ≤ length (now bytes)) ⌝ }
+    ensures { λ r. ⌜ (r .one ≡ codeIn w (numberFrom (now (bytes .entry))) (2 * p)) × (r .two ≡ codeIn w (numberFrom (now (bytes .entry))) (2 * p + 1)) ⌝ }
+{
+    let half = ((w - 1) / 2) as usize;
+    let skip = (w - 1) % 2 * 4;
+    let size = 4 * (w - 1);
+    let mask = (1u64 << size) - 1;
+    let at = ((w - 1) as usize) * p;
+    let one = word_ahead(bytes, at);
+    let two = word_ahead(bytes, at + half);
+    Pair {
+        one: one & mask,
+        two: (two >> skip) & mask,
+    }
 }
 
 // A quadruple's nibbles, each as the highest of a word's 16 bits, the first lowest. The product has the
@@ -338,13 +414,7 @@ fn bucket_from(quads: &[u16; 3876], w: u32, code: u64) -> [u16; 4]
 fn descending(a: u16, b: u16, c: u16, d: u16) -> bool
     ensures { λ r. ⌜ r ≡ descends (a ∷ b ∷ c ∷ d ∷ []) ⌝ }
 {
-    if b < a {
-        return true;
-    }
-    if c < b {
-        return true;
-    }
-    d < c
+    (b < a) | (c < b) | (d < c)
 }
 
 // 1 for a filled cell.
@@ -378,7 +448,7 @@ fn check_code(quads: &[u16; 3876], w: u32, code: u64) -> UnpackAnswer
 
 // Whether a bit behind the last bucket is set: there are four if the buckets take an odd number of half bytes.
 fn filling_set(s: Settings, bytes: &[u8]) -> bool
-    requires { ⌜ Input s (now bytes) ⌝ }
+    requires { ⌜ Input (s .width) (s .buckets) (now bytes) ⌝ }
     ensures { λ r. ⌜ r ≡ not (eqb (numberFrom (now (bytes .entry)) / 2 ^ (bucketBits (s .width) * s .buckets)) 0) ⌝ }
 {
     let w = s.width;
@@ -391,15 +461,56 @@ fn filling_set(s: Settings, bytes: &[u8]) -> bool
     last >= 16
 }
 
+// How many buckets passed, and how many of their cells are filled.
+struct Seen {
+    buckets: usize,
+    count: usize,
+}
+
+// The pairs ahead checked, up to a bucket that does not pass.
+fn check_pairs(quads: &[u16; 3876], w: u32, m: usize, bytes: &[u8]) -> Seen
+    requires { ⌜ (now quads ≡ allRows) × Input w m (now bytes) ⌝ }
+    ensures { λ r. ⌜ CellsCounted w m (numberFrom (now (bytes .entry))) (r .count) (r .buckets) ⌝ }
+{
+    let many = ahead(m);
+    let mut count = 0;
+    let mut p = 0;
+    while p < many {
+        let pair = pair_ahead(w, bytes, p);
+        let first = check_code(quads, w, pair.one);
+        let UnpackAnswer::Unpacked(n) = first else {
+            return Seen {
+                buckets: 2 * p,
+                count: count,
+            };
+        };
+        count += n;
+        let second = check_code(quads, w, pair.two);
+        let UnpackAnswer::Unpacked(k) = second else {
+            return Seen {
+                buckets: 2 * p + 1,
+                count: count,
+            };
+        };
+        count += k;
+        p += 1;
+    }
+    Seen {
+        buckets: 2 * p,
+        count: count,
+    }
+}
+
 // Every bucket checked and the filling after them, with the table still untouched. The answer is the reader's.
 fn check_buckets(quads: &[u16; 3876], s: Settings, bytes: &[u8]) -> UnpackAnswer
-    requires { ⌜ (now quads ≡ allRows) × Input s (now bytes) ⌝ }
+    requires { ⌜ (now quads ≡ allRows) × Input (s .width) (s .buckets) (now bytes) ⌝ }
     ensures { λ r. ⌜ unpackIs r ≡ countIn (unpack (s .width) (s .buckets) (numberFrom (now (bytes .entry)))) ⌝ }
 {
     let w = s.width;
     let m = s.buckets as usize;
-    let mut count = 0;
-    let mut b = 0;
+    let seen = check_pairs(quads, w, m, bytes);
+    let mut count = seen.count;
+    let mut b = seen.buckets;
     while b < m {
         let code = code_at(w, bytes, b);
         let found = check_code(quads, w, code);
@@ -426,19 +537,57 @@ fn put(part: &mut [u16], a: u16, b: u16, c: u16, d: u16)
     part[3] = d;
 }
 
+// One bucket to the table, from its number.
+fn store_code(quads: &[u16; 3876], w: u32, code: u64, table: &mut [u16], at: usize)
+    requires { ⌜ (now quads ≡ allRows) × Width w × (code % 4096 < 3876) × (at + 4 ≤ length (now table)) ⌝ }
+    ensures { λ r. ⌜ now (table .exit) ≡ take at (now (table .entry)) ++ (bucketFrom w code ++ drop (at + 4) (now (table .entry))) ⌝ }
+{
+    let f = bucket_from(quads, w, code);
+    put(&mut table[at..], f[0], f[1], f[2], f[3]);
+}
+
+// The pairs ahead of a stream that passed, to the table; how many.
+fn store_pairs(quads: &[u16; 3876], w: u32, m: usize, bytes: &[u8], table: &mut [u16]) -> usize
+    requires { ⌜ Storing (now quads) w m (now bytes) (now table) ⌝ }
+    ensures { λ r. ⌜ CellsStored w m (numberFrom (now (bytes .entry))) (now (table .exit)) (2 * r) ⌝ }
+{
+    let many = ahead(m);
+    let mut p = 0;
+    while p < many {
+        let pair = pair_ahead(w, bytes, p);
+        store_code(quads, w, pair.one, table, 8 * p);
+        store_code(quads, w, pair.two, table, 8 * p + 4);
+        p += 1;
+    }
+    p
+}
+
+// The same, with the usual widths as literals.
+fn store_by(quads: &[u16; 3876], w: u32, m: usize, bytes: &[u8], table: &mut [u16]) -> usize
+    requires { ⌜ Storing (now quads) w m (now bytes) (now table) ⌝ }
+    ensures { λ r. ⌜ CellsStored w m (numberFrom (now (bytes .entry))) (now (table .exit)) (2 * r) ⌝ }
+{
+    if w == 16 {
+        return store_pairs(quads, 16, m, bytes, table);
+    }
+    if w == 12 {
+        return store_pairs(quads, 12, m, bytes, table);
+    }
+    store_pairs(quads, w, m, bytes, table)
+}
+
 // Every bucket of a stream that passed, to the table.
 fn store_buckets(quads: &[u16; 3876], s: Settings, bytes: &[u8], table: &mut [u16])
-    requires { ⌜ (now quads ≡ allRows) × Input s (now bytes) × (length (now table) ≡ 4 * s .buckets) × Passes (unpack (s .width) (s .buckets) (numberFrom (now bytes))) ⌝ }
+    requires { ⌜ Storing (now quads) (s .width) (s .buckets) (now bytes) (now table) ⌝ }
     ensures { λ r. ⌜ given (now (table .exit)) ≡ unpack (s .width) (s .buckets) (numberFrom (now (bytes .entry))) ⌝ }
 {
     let w = s.width;
     let m = s.buckets as usize;
-    let mut b = 0;
+    let pairs = store_by(quads, w, m, bytes, table);
+    let mut b = 2 * pairs;
     while b < m {
         let code = code_at(w, bytes, b);
-        let f = bucket_from(quads, w, code);
-        let at = 4 * b;
-        put(&mut table[at..], f[0], f[1], f[2], f[3]);
+        store_code(quads, w, code, table, 4 * b);
         b += 1;
     }
 }

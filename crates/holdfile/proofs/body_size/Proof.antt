@@ -1,10 +1,12 @@
 use Prim.Native.Nat.{_+_, _-_, _*_, _^_, _≤_, _<_}
-use lib.ListN.{length, drop}
-use mathlib.Core.Path.{_≡_, refl, sym, ap, _∙_}
+use lib.ListN.{length, drop, getD}
+use mathlib.Core.Path.{_≡_, sym, ap, _∙_}
 use native.Mathlib.Omega.{arith}
 use Rattle.holdfile.proofs.Reading.{shifted}
-use Rattle.holdfile.proofs.Writing.{printSizes, sizes-step, sizes-end, any-turn, any-end, body-length}
+use Rattle.holdfile.proofs.Writing.{counted, printSizes, sizes-step, sizes-end, any-turn, any-end, body-length}
 use mathlib.Core.Bool.{Bool, _||_}
+use borrow.Author.Needs.{needs}
+use Rattle.file_form.specs.Writer.{filled}
 use borrow.Author.Tests.{le-leb, lt-leb}
 use lib.Dec.{leb}
 use lib.Pow.{pow-pos}
@@ -13,56 +15,40 @@ use Rattle.holdfile.proofs.body_size.Statement.{statement}
 use Rattle.holdfile.proofs.body_size.Tie as tie
 
 abbrev Inv-loop : tie.InvT-loop
-Inv-loop table width buckets top₀ n₀ i₀ top n i =
-    (i ≤ length table) × (n + printSizes (drop i table) ≡ buckets + printSizes table)
-    × ((leb (2 ^ width) top || anyFrom (2 ^ width) (drop i table)) ≡ anyFrom (2 ^ width) table) × (n ≤ buckets + 2 * i)
+Inv-loop table width buckets top₀ filled₀ i₀ top filled i =
+    (i ≤ length table) × (2 * filled + printSizes (drop i table) ≡ printSizes table)
+    × ((leb (2 ^ width) top || anyFrom (2 ^ width) (drop i table)) ≡ anyFrom (2 ^ width) table) × (filled ≤ i)
 
 abbrev μ-loop : tie.MeasureT-loop
-μ-loop table width buckets top₀ n₀ i₀ top n i = length table - i
+μ-loop table width buckets top₀ filled₀ i₀ top filled i = length table - i
 
 loop-holds : tie.Need-loop-holds Inv-loop μ-loop
 loop-holds c =
     let w = c .before .args .width in
-    (omega arith, refl, ap (λ (b : Bool). b || anyFrom (2 ^ w) (c .before .args .table .now)) (lt-leb (2 ^ w) 0 (pow-pos w)), omega arith)
+    (omega arith, omega arith, ap (λ (b : Bool). b || anyFrom (2 ^ w) (c .before .args .table .now)) (lt-leb (2 ^ w) 0 (pow-pos w)), omega arith)
 
-mul-v : tie.Need-mul-v Inv-loop μ-loop
-mul-v c = omega arith
-
-shared-slice-read-v : tie.Need-shared-slice-read-v Inv-loop μ-loop
-shared-slice-read-v c = omega arith
-
-larger-requires : tie.Need-larger-requires Inv-loop μ-loop
-larger-requires c κs = tt
-
-part-size-requires : tie.Need-part-size-requires Inv-loop μ-loop
-part-size-requires c κs = tt
-
-add-n : tie.Need-add-n Inv-loop μ-loop
-add-n c = omega arith
-
-add-i : tie.Need-add-i Inv-loop μ-loop
-add-i c = omega arith
-
-loop-less : tie.Need-loop-less Inv-loop μ-loop
-loop-less c = omega arith
+add-filled : tie.Need-add-filled Inv-loop μ-loop
+add-filled c =
+    let l = c .before .before .before in
+    let s = l .before .before in
+    omega (arith, counted (filled (getD (s .args .table .now) (l .loop .i) 0)) .0, l .loop .inv .3, s .pre .1, s .pre .2, c .before .before .loop-test .taken)
 
 loop-again : tie.Need-loop-again Inv-loop μ-loop
 loop-again c =
-    let t = c .before .before .before .before .before .before .args .table .now in
-    let w = c .before .before .before .before .before .before .args .width in
-    let l = c .before .before .before .before .loop in
-    let g : l .i < length t = c .before .before .before .loop-test .taken in (
+    let s = c .before .before .before .before .before in
+    let t = s .args .table .now in
+    let w = s .args .width in
+    let l = c .before .before .before .loop in
+    let g : l .i < length t = c .before .before .loop-test .taken in
+    let bit = counted (filled (getD t (l .i) 0)) in (
       omega arith,
-      omega (arith, sizes-step t (l .i) g, c .part-size .ensures .0, l .inv .1),
-      any-turn t (l .i) (2 ^ w) (l .top) (c .before .larger .result) g (c .before .larger .ensures) ∙ l .inv .2,
-      omega (arith, c .part-size .ensures .1, l .inv .3),
+      omega (arith, sizes-step t (l .i) g, bit .1, l .inv .1),
+      any-turn t (l .i) (2 ^ w) (l .top) (c .larger .result) g (c .larger .ensures) ∙ l .inv .2,
+      omega (arith, bit .0, l .inv .3),
     )
 
 shl-limit : tie.Need-shl-limit Inv-loop μ-loop
 shl-limit c = omega (arith, c .before .before .before .pre .0)
-
-wide-requires : tie.Need-wide-requires Inv-loop μ-loop
-wide-requires c κs = tt
 
 returns : tie.Need-returns Inv-loop μ-loop
 returns c =
@@ -92,15 +78,18 @@ body-size-spec =
     Inv-loop
     μ-loop
     loop-holds
-    mul-v
-    shared-slice-read-v
-    larger-requires
-    part-size-requires
-    add-n
-    add-i
-    loop-less
+    (λ c. search needs)
+    (λ c. search needs)
+    (λ c κs. search needs)
+    (λ c. search needs)
+    add-filled
+    (λ c. search needs)
+    (λ c. search needs)
     loop-again
     shl-limit
-    wide-requires
+    (λ c κs. search needs)
     returns
+    (λ c. search needs)
+    (λ c. search needs)
+    (λ c. search needs)
     returns-2)

@@ -1,78 +1,135 @@
-use Prim.Native.Nat.{ℕ, _+_}
+use Prim.Native.Nat.{ℕ, _+_, _≤_}
 use borrow.Author.Needs.{needs}
-use lib.ListN.{getD}
-use mathlib.Core.List.{List, [], _∷_}
-use mathlib.Core.Path.{refl, sym, ap}
-use Rattle.file_form.specs.Writer.{cellBytes, prints}
-use Rattle.lemmas.proofs.Stores.{Left, left-all, left-room, left-turn, left-none}
+use lib.ListN.{length, getD}
+use mathlib.Core.List.{List, _∷_, _++_, append-nil}
+use mathlib.Core.Path.{_≡_, sym, ap, ap₂, _∙_, subst}
+use native.Mathlib.Omega.{arith}
+use Rattle.file_form.specs.Writer.{cellBytes}
+use Rattle.lemmas.specs.Stores.{PutBefore}
+use Rattle.lemmas.proofs.Stores.{put-before, before-then}
+use Rattle.holdfile.specs.Internal.{slack, bucketBytesAt}
+use Rattle.holdfile.proofs.Writing.{cell-length, bucket-length}
 use Rattle.holdfile.proofs.put_bucket.Statement.{statement}
 use Rattle.holdfile.proofs.put_bucket.Tie as tie
-use Rattle.holdfile.specs.Internal.{bucketBytesAt}
-
--- the cells, and what is left to store from one of them on
-abbrev cell : tie.Start → ℕ → ℕ
-cell c k = getD (c .args .table .now) (c .args .i + k) 0
-
-abbrev cells : tie.Start → List ℕ
-cells c = getD (c .args .table .now) (c .args .i) 0 ∷ cell c 1 ∷ cell c 2 ∷ cell c 3 ∷ []
-
-abbrev LeftOf : tie.Start → List ℕ → ℕ → List ℕ → Type 0
-LeftOf c e at l = Left (c .args .out .now) e (c .args .at) at (bucketBytesAt (c .args .table .now) (c .args .i)) (prints l)
 
 -- the places behind each call
-abbrev start : tie.After-put-byte → tie.Start
-start c = c .before .before .before .before .before .before .before .before .before
+abbrev read : tie.After-part-size4 → tie.After-nibble
+read c = c .before .before .before .before
 
-abbrev back1 : tie.After-put-pair-field → tie.After-put-byte
+abbrev start : tie.After-nibble → tie.Start
+start c = c .before .before .before .before .before .before .before
+
+abbrev back0 : tie.After-put-byte → tie.After-part-size4
+back0 c = c .before .before
+
+abbrev back1 : tie.After-put-cell → tie.After-put-byte
 back1 c = c .before .before .before .before
 
-abbrev back2 : tie.After-put-pair-field2 → tie.After-put-pair-field
+abbrev back2 : tie.After-put-cell2 → tie.After-put-cell
 back2 c = c .before .before .before .before
 
-abbrev back3 : tie.After-put-pair-field3 → tie.After-put-pair-field2
+abbrev back3 : tie.After-put-cell3 → tie.After-put-cell2
 back3 c = c .before .before .before .before
 
-left0 : (c : tie.After-put-byte) → LeftOf (start c) (c .put-byte .last .0) (c .put-byte .result) (cells (start c))
-left0 c =
-    let s = start c in
-    left-turn (left-all (s .args .out .now) (s .args .at) (bucketBytesAt (s .args .table .now) (s .args .i))) (prints (cells s)) (c .put-byte .ensures)
-    (ap (λ (n : ℕ). n ∷ prints (cells s)) (sym (c .before .before .nibble .ensures)))
+-- the bytes of each cell
+abbrev first : tie.Start → List ℕ
+first c = cellBytes (getD (c .args .table .now) (c .args .i) 0)
 
-left1 : (c : tie.After-put-pair-field) → let s = start (back1 c) in LeftOf s (c .put-pair-field .last .0) (c .put-pair-field .result) (cell s 1 ∷ cell s 2 ∷ cell s 3 ∷ [])
-left1 c = let s = start (back1 c) in left-turn (left0 (back1 c)) (prints (cell s 1 ∷ cell s 2 ∷ cell s 3 ∷ [])) (c .put-pair-field .ensures) refl
+abbrev cell : tie.Start → ℕ → List ℕ
+cell c k = cellBytes (getD (c .args .table .now) (c .args .i + k) 0)
 
-left2 : (c : tie.After-put-pair-field2) → let s = start (back1 (back2 c)) in LeftOf s (c .put-pair-field2 .last .0) (c .put-pair-field2 .result) (cell s 2 ∷ cell s 3 ∷ [])
-left2 c = let s = start (back1 (back2 c)) in left-turn (left1 (back2 c)) (prints (cell s 2 ∷ cell s 3 ∷ [])) (c .put-pair-field2 .ensures) refl
+room : (c : tie.Start)
+    → c .args .at + 1 + length (first c) + length (cell c 1) + length (cell c 2) + length (cell c 3) + slack (c .args .ahead) ≤ length (c .args .out .now)
+room c =
+    let t = c .args .table .now in
+    let i = c .args .i in
+    omega (arith, c .pre .1, bucket-length (getD t i 0) (getD t (i + 1) 0) (getD t (i + 2) 0) (getD t (i + 3) 0))
 
-left3 : (c : tie.After-put-pair-field3) → let s = start (back1 (back2 (back3 c))) in LeftOf s (c .put-pair-field3 .last .0) (c .put-pair-field3 .result) (cell s 3 ∷ [])
-left3 c = let s = start (back1 (back2 (back3 c))) in left-turn (left2 (back3 c)) (prints (cell s 3 ∷ [])) (c .put-pair-field3 .ensures) refl
+-- what is added up
+size : (c : tie.After-part-size4)
+    → let a = start (read c) .args in
+    1 + (c .before .before .before .part-size .result + c .before .before .part-size2 .result) + (c .before .part-size3 .result + c .part-size4 .result) ≡ length (bucketBytesAt (a .table .now) (a .i))
+size c =
+    let t = start (read c) .args .table .now in
+    let i = start (read c) .args .i in
+    omega (
+      arith,
+      bucket-length (getD t i 0) (getD t (i + 1) 0) (getD t (i + 2) 0) (getD t (i + 3) 0),
+      cell-length (getD t i 0),
+      cell-length (getD t (i + 1) 0),
+      cell-length (getD t (i + 2) 0),
+      cell-length (getD t (i + 3) 0),
+      c .before .before .before .part-size .ensures .0,
+      c .before .before .part-size2 .ensures .0,
+      c .before .part-size3 .ensures .0,
+      c .part-size4 .ensures .0,
+    )
 
-put-pair-field-requires : tie.Need-put-pair-field-requires
-put-pair-field-requires c κs =
-    let k = c .before .before .before in
-    let s = start k in
-    left-room (left0 k) (cellBytes (getD (s .args .table .now) (s .args .i) 0)) (prints (cell s 1 ∷ cell s 2 ∷ cell s 3 ∷ [])) refl (s .pre .1)
+put-byte-requires : tie.Need-put-byte-requires
+put-byte-requires c κs = omega (arith, room (start (read (c .before))))
 
-put-pair-field-requires-2 : tie.Need-put-pair-field-requires-2
-put-pair-field-requires-2 c κs =
-    let k = c .before .before .before in
-    let s = start (back1 k) in
-    left-room (left1 k) (cellBytes (cell s 1)) (prints (cell s 2 ∷ cell s 3 ∷ [])) refl (s .pre .1)
+put-cell-requires : tie.Need-put-cell-requires
+put-cell-requires c κs =
+    let p = c .before .before .before in
+    omega (arith, room (start (read (back0 p))), p .put-byte .ensures .place, p .put-byte .kept .0)
 
-put-pair-field-requires-3 : tie.Need-put-pair-field-requires-3
-put-pair-field-requires-3 c κs =
-    let k = c .before .before .before in
-    let s = start (back1 (back2 k)) in
-    left-room (left2 k) (cellBytes (cell s 2)) (prints (cell s 3 ∷ [])) refl (s .pre .1)
+put-cell-requires-2 : tie.Need-put-cell-requires-2
+put-cell-requires-2 c κs =
+    let a = c .before .before .before in
+    let p = back1 a in
+    omega (arith, room (start (read (back0 p))), p .put-byte .ensures .place, p .put-byte .kept .0, a .put-cell .ensures .place, a .put-cell .kept .0)
 
-put-pair-field-requires-4 : tie.Need-put-pair-field-requires-4
-put-pair-field-requires-4 c κs =
-    let k = c .before .before .before in
-    let s = start (back1 (back2 (back3 k))) in
-    left-room (left3 k) (cellBytes (cell s 3)) [] refl (s .pre .1)
+put-cell-requires-3 : tie.Need-put-cell-requires-3
+put-cell-requires-3 c κs =
+    let b = c .before .before .before in
+    let a = back2 b in
+    let p = back1 a in
+    omega (arith, room (start (read (back0 p))), p .put-byte .ensures .place, p .put-byte .kept .0, a .put-cell .ensures .place, a .put-cell .kept .0, b .put-cell2 .ensures .place, b .put-cell2 .kept .0)
+
+put-cell-requires-4 : tie.Need-put-cell-requires-4
+put-cell-requires-4 c κs =
+    let d = c .before .before .before in
+    let b = back3 d in
+    let a = back2 b in
+    let p = back1 a in
+    omega (
+      arith,
+      room (start (read (back0 p))),
+      p .put-byte .ensures .place,
+      p .put-byte .kept .0,
+      a .put-cell .ensures .place,
+      a .put-cell .kept .0,
+      b .put-cell2 .ensures .place,
+      b .put-cell2 .kept .0,
+      d .put-cell3 .ensures .place,
+      d .put-cell3 .kept .0,
+    )
+
+-- all parts stored
+abbrev stored : tie.After-put-cell4 → tie.After-put-cell3
+stored c = c .before .before .before .before
+
+add-result-3 : tie.Need-add-result-3
+add-result-3 c =
+    let z = back0 (back1 (back2 (back3 (stored (c .before .before))))) in
+    omega (arith, size z, start (read z) .pre .1)
 
 returns : tie.Need-returns
-returns c = left-none (left-turn (left3 (c .before .before .before .before .before .before)) [] (c .before .before .put-pair-field4 .ensures) refl) refl
+returns c =
+    let e = c .before .before in
+    let d = stored e in
+    let b = back3 d in
+    let a = back2 b in
+    let p = back1 a in
+    let z = back0 p in
+    let s = start (read z) in
+    let all =
+    before-then (put-before (p .put-byte .ensures))
+    (before-then (a .put-cell .ensures) (before-then (b .put-cell2 .ensures) (before-then (d .put-cell3 .ensures) (e .put-cell4 .ensures)))) in
+    let bytes = ap₂ (λ (n : ℕ) (l : List ℕ). n ∷ (first s ++ (cell s 1 ++ (cell s 2 ++ l)))) (read z .nibble .ensures) (sym (append-nil (cell s 3))) in
+    let k = subst (λ (l : List ℕ). PutBefore (slack (s .args .ahead)) (s .args .out .now) (e .put-cell4 .last .0) (s .args .at) l (e .put-cell4 .result)) bytes all in
+    subst (PutBefore (slack (s .args .ahead)) (s .args .out .now) (e .put-cell4 .last .0) (s .args .at) (bucketBytesAt (s .args .table .now) (s .args .i)))
+    (k .place ∙ ap (λ (n : ℕ). s .args .at + n) (sym (size z))) k
 
 pub put-bucket-spec : {M : Type 1} → statement M
 put-bucket-spec =
@@ -91,9 +148,18 @@ put-bucket-spec =
     (λ c. search needs)
     (λ c κs. search needs)
     (λ c κs. search needs)
-    put-pair-field-requires
-    put-pair-field-requires-2
-    put-pair-field-requires-3
-    put-pair-field-requires-4
+    (λ c κs. search needs)
+    (λ c. search needs)
+    (λ c κs. search needs)
+    (λ c κs. search needs)
+    (λ c. search needs)
+    put-byte-requires
+    put-cell-requires
+    put-cell-requires-2
+    put-cell-requires-3
+    put-cell-requires-4
+    (λ c. search needs)
+    (λ c. search needs)
+    add-result-3
     (λ c. search needs)
     returns)

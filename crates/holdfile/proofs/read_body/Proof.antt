@@ -43,7 +43,7 @@ store-buckets-requires c κs =
     let k = c .before .before .before in
     let a = start (checked k) .args in
     let S = passes (checked k) in
-    (laws (a .s) (S .settings) .width-high, S .size, passed-of (readBuckets (a .s .width) (a .s .buckets) (drop (a .at) (a .bytes .now))) _ (ends k))
+    (S .size, passed-of (readBuckets (a .s .width) (a .s .buckets) (drop (a .at) (a .bytes .now))) _ (ends k))
 
 returns-3 : tie.Need-returns-3
 returns-3 c =

@@ -1,120 +1,129 @@
-use Prim.Native.Nat.{ℕ, _+_}
+use Prim.Native.Nat.{ℕ, _+_, _<_}
 use borrow.Author.Needs.{needs}
-use lib.ListN.{drop}
-use mathlib.Core.List.{List}
-use mathlib.Core.Path.{refl, sym, ap, _∙_}
+use lib.ListN.{length, drop, getD}
+use mathlib.Core.Bool.{cond}
+use mathlib.Core.List.{List, [], _∷_}
+use mathlib.Core.Path.{_≡_, sym, ap, ap₂, _∙_}
 use native.Mathlib.Omega.{arith}
-use Rattle.holdfile.proofs.Reading.{Come, come-room, come-on, come-next, come-first, marks-in, behind0, behind1, behind2, behind3, stored}
+use Rattle.file_form.specs.Bytes.{bit0, bit1, bit2, bit3}
+use Rattle.file_form.specs.Parsed.{next}
+use Rattle.holdfile.specs.Internal.{pairFrom}
+use Rattle.holdfile.proofs.Reading.{second, third, fourth, cellsOf, places-are, places-near, pair-room, four-same, Passed, bucket-passed, marks-in, stored}
 use Rattle.holdfile.proofs.store_bucket.Statement.{statement}
 use Rattle.holdfile.proofs.store_bucket.Tie as tie
-use Rattle.file_form.specs.Bytes.{bit0, bit1, bit2, bit3}
-use Rattle.holdfile.specs.Internal.{cellFrom}
-use Rattle.file_form.specs.Parsed.{Parsed, next}
-use Rattle.file_form.specs.Reader.{readBucket}
 
--- ── the places: behind the byte that marks the cells, and behind each cell ──
-abbrev start : tie.After-widen → tie.Start
-start c = c .before .before .before .before
+-- the places: all places known, and the start
+abbrev start : tie.After-part-size3 → tie.Start
+start c = c .before .before .before .before .before .before
 
-abbrev before-a : tie.After-store-cell → tie.After-widen
-before-a c = c .before .before
+abbrev marks : tie.Start → ℕ
+marks c = getD (c .args .bytes .now) (c .args .at) 0
 
-abbrev before-b : tie.After-store-cell2 → tie.After-store-cell
-before-b c = c .before .before .before .before
+passed : (c : tie.Start) → Passed (c .args .width) (c .args .bytes .now) (c .args .at)
+passed c = bucket-passed (c .args .width) (c .args .bytes .now) (c .args .at) (c .pre .2)
 
-abbrev before-c : tie.After-store-cell3 → tie.After-store-cell2
-before-c c = c .before .before .before .before
+inside : (c : tie.Start) → c .args .at < length (c .args .bytes .now)
+inside c = marks-in (c .args .width) (c .args .bytes .now) (c .args .at) (c .pre .2)
 
--- the whole, and what has been read of it
-abbrev width : tie.After-widen → ℕ
-width c = start c .args .width
+is : (c : tie.After-part-size3)
+    → let at = start c .args .at in
+    let m = marks (start c) in
+    let p = c .before .before .part-size .result in
+    let q = c .before .part-size2 .result in
+    (at + 1 + p ≡ second at m) × (at + 1 + p + q ≡ third at m) × (at + 1 + p + q + c .part-size3 .result ≡ fourth at m)
+is c = places-are (start c .args .at) (marks (start c)) _ _ _ (c .before .before .part-size .ensures .0) (c .before .part-size2 .ensures .0) (c .part-size3 .ensures .0)
 
-abbrev bytes : tie.After-widen → List ℕ
-bytes c = start c .args .bytes .now
+shared-slice-read-m : tie.Need-shared-slice-read-m
+shared-slice-read-m c = omega (arith, inside (c .before .before .before))
 
-abbrev marks : tie.After-widen → ℕ
-marks c = c .widen .result
+add-first : tie.Need-add-first
+add-first c = omega (arith, inside (c .before .before .before))
 
-abbrev whole : tie.After-widen → Parsed (List ℕ)
-whole c = readBucket (width c) (drop (start c .args .at) (bytes c))
+add-second : tie.Need-add-second
+add-second c = omega (arith, passed (c .before .before .before .before) .inside-second, c .part-size .ensures .0)
 
-abbrev cell-a : tie.After-widen → ℕ
-cell-a c = cellFrom (bytes c) (start c .args .at + 1) (bit0 (marks c))
+add-third : tie.Need-add-third
+add-third c = omega (arith, passed (c .before .before .before .before .before) .inside-third, c .before .part-size .ensures .0, c .part-size2 .ensures .0)
 
-abbrev cell-b : tie.After-store-cell → ℕ
-cell-b c = cellFrom (bytes (before-a c)) (c .store-cell .result) (bit1 (marks (before-a c)))
+add-fourth : tie.Need-add-fourth
+add-fourth c = omega (arith, passed (start c) .inside-fourth, is c .2)
 
-abbrev cell-c : tie.After-store-cell2 → ℕ
-cell-c c = cellFrom (bytes (before-a (before-b c))) (c .store-cell2 .result) (bit2 (marks (before-a (before-b c))))
+pair-from-requires : tie.Need-pair-from-requires
+pair-from-requires c κs =
+    let s = start c in
+    pair-room (s .args .ahead) (length (s .args .bytes .now)) (s .args .at) (s .args .at + 1) (s .pre .1) (omega (arith, inside s)) (omega arith)
 
-abbrev cell-d : tie.After-store-cell3 → ℕ
-cell-d c = cellFrom (bytes (before-a (before-b (before-c c)))) (c .store-cell3 .result) (bit3 (marks (before-a (before-b (before-c c)))))
+pair-from-requires-2 : tie.Need-pair-from-requires-2
+pair-from-requires-2 c κs =
+    let p = c .before .before in
+    let s = start p in
+    let at = s .args .at in
+    omega (arith, is p .0, pair-room (s .args .ahead) (length (s .args .bytes .now)) at (second at (marks s)) (s .pre .1) (passed s .inside-second) (omega (arith, places-near at (marks s) .0)))
 
--- ── the whole, continued from each place ──
-at-a : (c : tie.After-widen) → Come (whole c) (width c) (bit0 (marks c)) (bytes c) (start c .args .at + 1) (behind0 (width c) (marks c))
-at-a c = come-first (width c) (bytes c) (start c .args .at) (start c .pre .2) (marks c) (c .widen .ensures)
+pair-from-requires-3 : tie.Need-pair-from-requires-3
+pair-from-requires-3 c κs =
+    let p = c .before .before .before .before in
+    let s = start p in
+    let at = s .args .at in
+    omega (arith, is p .1, pair-room (s .args .ahead) (length (s .args .bytes .now)) at (third at (marks s)) (s .pre .1) (passed s .inside-third) (omega (arith, places-near at (marks s) .1)))
 
-at-b : (c : tie.After-store-cell) → let e = before-a c in Come (whole e) (width e) (bit1 (marks e)) (bytes e) (c .store-cell .result) (behind1 (width e) (marks e) (cell-a e))
-at-b c = come-next (at-a (before-a c)) (c .store-cell .ensures .place) (λ rest. refl)
+pair-from-requires-4 : tie.Need-pair-from-requires-4
+pair-from-requires-4 c κs =
+    let p = c .before .before .before .before .before .before in
+    let s = start p in
+    let at = s .args .at in
+    omega (arith, is p .2, pair-room (s .args .ahead) (length (s .args .bytes .now)) at (fourth at (marks s)) (s .pre .1) (passed s .inside-fourth) (omega (arith, places-near at (marks s) .2)))
 
-at-c : (c : tie.After-store-cell2)
-    → let e = before-a (before-b c) in Come (whole e) (width e) (bit2 (marks e)) (bytes e) (c .store-cell2 .result) (behind2 (width e) (marks e) (cell-a e) (cell-b (before-b c)))
-at-c c = come-next (at-b (before-b c)) (c .store-cell2 .ensures .place) (λ rest. refl)
+-- all cells read
+abbrev placed : tie.After-bucket-size → tie.After-part-size3
+placed c = c .before .before .before .before .before .before .before .before .before
 
-at-d : (c : tie.After-store-cell3)
-    → let b = before-b (before-c c) in
-    let e = before-a b in
-    Come (whole e) (width e) (bit3 (marks e)) (bytes e) (c .store-cell3 .result) (behind3 (cell-a e) (cell-b b) (cell-c (before-c c)))
-at-d c = come-next (at-c (before-c c)) (c .store-cell3 .ensures .place) (λ rest. refl)
-
-shared-slice-read-widen : tie.Need-shared-slice-read-widen
-shared-slice-read-widen c = let s = c .before .before .before in omega (arith, marks-in (s .args .width) (s .args .bytes .now) (s .args .at) (s .pre .2))
-
-add-at : tie.Need-add-at
-add-at c = omega (arith, at-a c .within)
-
-store-cell-requires : tie.Need-store-cell-requires
-store-cell-requires c κs = (come-room (at-a (c .before)), omega (arith, start (c .before) .pre .1))
-
-store-cell-requires-2 : tie.Need-store-cell-requires-2
-store-cell-requires-2 c κs = let a = c .before .before .before in (come-room (at-b a), omega (arith, start (before-a a) .pre .1, a .store-cell .kept .1 .1 .1 .0))
-
-store-cell-requires-3 : tie.Need-store-cell-requires-3
-store-cell-requires-3 c κs =
-    let b = c .before .before .before in
-    let a = before-b b in
-    (come-room (at-c b), omega (arith, start (before-a a) .pre .1, a .store-cell .kept .1 .1 .1 .0, b .store-cell2 .kept .1 .1 .1 .0))
-
-store-cell-requires-4 : tie.Need-store-cell-requires-4
-store-cell-requires-4 c κs =
-    let e = c .before .before .before in
-    let b = before-c e in
-    let a = before-b b in
-    (come-room (at-d e), omega (arith, start (before-a a) .pre .1, a .store-cell .kept .1 .1 .1 .0, b .store-cell2 .kept .1 .1 .1 .0, e .store-cell3 .kept .1 .1 .1 .0))
+add-result : tie.Need-add-result
+add-result c = omega (arith, passed (start (placed c)) .inside, c .bucket-size .ensures)
 
 returns : tie.Need-returns
 returns c =
-    let f = c .before .before in
-    let e = f .before .before .before .before in
-    let b = before-c e in
-    let a = before-b b in
-    let s = start (before-a a) in
-    come-on (at-d e) (f .store-cell4 .ensures .place)
-    ∙ ap (λ (x : List ℕ). next x (drop (f .store-cell4 .result) (s .args .bytes .now)))
-    (sym (stored (s .args .part .now) (cell-a (before-a a)) (cell-b a) (cell-c b) (cell-d e) (s .pre .1)
-    (a .store-cell .last .1 .1 .1 .0) (b .store-cell2 .last .1 .1 .1 .0) (e .store-cell3 .last .1 .1 .1 .0) (f .store-cell4 .last .1 .1 .1 .0)
-    (a .store-cell .ensures .output) (b .store-cell2 .ensures .output) (e .store-cell3 .ensures .output) (f .store-cell4 .ensures .output)))
+    let d = c .before in
+    let k = d .before .before in
+    let b = k .before .before in
+    let a = b .before .before in
+    let p = placed c in
+    let s = start p in
+    let l = s .args .bytes .now in
+    let m = marks s in
+    let ea = a .pick .ensures ∙ ap (λ (v : ℕ). cond (bit0 m) v 0) (a .before .pair-from .ensures) in
+    let eb = b .pick2 .ensures ∙ ap (λ (v : ℕ). cond (bit1 m) v 0) (b .before .pair-from2 .ensures ∙ ap (pairFrom l) (is p .0)) in
+    let ec = k .pick3 .ensures ∙ ap (λ (v : ℕ). cond (bit2 m) v 0) (k .before .pair-from3 .ensures ∙ ap (pairFrom l) (is p .1)) in
+    let ed = d .pick4 .ensures ∙ ap (λ (v : ℕ). cond (bit3 m) v 0) (d .before .pair-from4 .ensures ∙ ap (pairFrom l) (is p .2)) in
+    let cells : a .pick .result ∷ b .pick2 .result ∷ k .pick3 .result ∷ d .pick4 .result ∷ [] ≡ cellsOf l (s .args .at) m = four-same ea eb ec ed in
+    passed s .is
+    ∙ ap₂ (λ (x : List ℕ) (n : ℕ). next x (drop (s .args .at + n) l)) (sym (stored (s .args .part .now) _ _ _ _ (s .pre .0) ∙ cells)) (sym (c .bucket-size .ensures))
 
 pub store-bucket-spec : {M : Type 1} → statement M
 store-bucket-spec =
     tie.close
     (tie.spec
-    shared-slice-read-widen
+    shared-slice-read-m
+    add-first
     (λ c κs. search needs)
-    add-at
-    store-cell-requires
-    store-cell-requires-2
-    store-cell-requires-3
-    store-cell-requires-4
+    add-second
+    (λ c κs. search needs)
+    add-third
+    (λ c κs. search needs)
+    add-fourth
+    pair-from-requires
+    (λ c κs. search needs)
+    pair-from-requires-2
+    (λ c κs. search needs)
+    pair-from-requires-3
+    (λ c κs. search needs)
+    pair-from-requires-4
+    (λ c κs. search needs)
+    (λ c. search needs)
+    (λ c. search needs)
+    (λ c. search needs)
+    (λ c. search needs)
+    (λ c κs. search needs)
+    add-result
     (λ c. search needs)
     returns)

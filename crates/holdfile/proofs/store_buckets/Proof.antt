@@ -1,87 +1,98 @@
-use Prim.Native.Nat.{ℕ, _+_, _*_, _-_, _≤_}
-use mathlib.Core.List.{List}
-use borrow.Rule.Slice.PartMut.{midOf, mid-len, same-len-mid}
-use lib.ListN.{length, take, drop}
-use mathlib.Core.Path.{_≡_, refl, sym, _∙_, subst}
+use Prim.Native.Nat.{_+_, _-_, _<_}
+use borrow.Author.Needs.{needs}
+use borrow.Rule.Slice.PartMut.{same-len-mid}
+use lib.ListN.{length, drop}
+use mathlib.Core.Path.{_≡_, refl, _∙_}
 use native.Mathlib.Omega.{arith}
-use Rattle.file_form.proofs.Laws.{inFront, in-front-none}
-use Rattle.holdfile.proofs.Reading.{passes-first, store-turn, store-end}
+use Rattle.file_form.proofs.Laws.{in-front-none}
+use Rattle.file_form.specs.Reader.{readBuckets}
+use Rattle.holdfile.proofs.Reading.{Upto, upto-passes, upto-inside, upto-ahead, upto-room, upto-part, upto-more, upto-end}
 use Rattle.holdfile.proofs.store_buckets.Statement.{statement}
 use Rattle.holdfile.proofs.store_buckets.Tie as tie
-use Rattle.holdfile.specs.Internal.{GivesCells}
-use Rattle.file_form.specs.Reader.{readBuckets}
 
 abbrev Inv-loop : tie.InvT-loop
-Inv-loop bytes from width count table₀ at₀ i₀ left₀ table at i left =
-    (inFront (take i table) (readBuckets width left (drop at bytes)) ≡ readBuckets width count (drop from bytes)) × (i + 4 * left ≡ length table) × (length table ≡ length table₀)
+Inv-loop bytes from width count table₀ at₀ i₀ left₀ table at i left = Upto bytes (readBuckets width count (drop from bytes)) width table at i left × (length table ≡ length table₀)
 
 abbrev μ-loop : tie.MeasureT-loop
 μ-loop bytes from width count table₀ at₀ i₀ left₀ table at i left = left
 
--- the part that is lent has four cells
-four : (i : ℕ) (t : List ℕ) → i + 4 ≤ length t → length (midOf i (i + 4 - i) t) ≡ 4
-four i t h = mid-len i (i + 4) t h ∙ omega arith
+abbrev Inv-loop2 : tie.InvT-loop2
+Inv-loop2 bytes from width count table₀ at₀ i₀ left₀ table at i left = Upto bytes (readBuckets width count (drop from bytes)) width table at i left × (length table ≡ length table₀)
 
-loop-holds : tie.Need-loop-holds Inv-loop μ-loop
+abbrev μ-loop2 : tie.MeasureT-loop2
+μ-loop2 bytes from width count table₀ at₀ i₀ left₀ table at i left = left
+
+-- ── the places ──
+abbrev start : tie.At-loop Inv-loop μ-loop Inv-loop2 μ-loop2 → tie.Start Inv-loop μ-loop Inv-loop2 μ-loop2
+start c = c .before .before .before
+
+abbrev first : tie.At-loop2 Inv-loop μ-loop Inv-loop2 μ-loop2 → tie.At-loop Inv-loop μ-loop Inv-loop2 μ-loop2
+first c = c .before .before
+
+-- ── the first loop ──
+loop-holds : tie.Need-loop-holds Inv-loop μ-loop Inv-loop2 μ-loop2
 loop-holds c =
     let s = c .before .before in
-    (in-front-none (readBuckets (s .args .width) (s .args .count) (drop (s .args .from) (s .args .bytes .now))), omega (arith, s .pre .1), refl)
+    let whole = readBuckets (s .args .width) (s .args .count) (drop (s .args .from) (s .args .bytes .now)) in
+    (record { is = in-front-none whole; size = omega (arith, s .pre .0); passes = s .pre .1 }, refl)
 
-add-e : tie.Need-add-e Inv-loop μ-loop
-add-e c = let l = c .before .loop in omega (arith, l .inv .1, c .loop-test .taken, l .inv .2, c .before .before .before .before .good)
+add-e : tie.Need-add-e Inv-loop μ-loop Inv-loop2 μ-loop2
+add-e c = let l = c .before in omega (arith, upto-room (l .loop .inv .0) (omega (arith, c .loop-test .taken)), l .loop .inv .1, start l .good)
 
-mul-store-bucket : tie.Need-mul-store-bucket Inv-loop μ-loop
-mul-store-bucket c = omega arith
+part-store-bucket-end : tie.Need-part-store-bucket-end Inv-loop μ-loop Inv-loop2 μ-loop2
+part-store-bucket-end c = upto-room (c .before .loop .inv .0) (omega (arith, c .loop-test .taken))
 
-sub-store-bucket : tie.Need-sub-store-bucket Inv-loop μ-loop
-sub-store-bucket c = omega arith
-
-part-store-bucket-start : tie.Need-part-store-bucket-start Inv-loop μ-loop
-part-store-bucket-start c = omega arith
-
-part-store-bucket-end : tie.Need-part-store-bucket-end Inv-loop μ-loop
-part-store-bucket-end c = let l = c .before .loop in omega (arith, l .inv .1, c .loop-test .taken)
-
-store-bucket-requires : tie.Need-store-bucket-requires Inv-loop μ-loop
+store-bucket-requires : tie.Need-store-bucket-requires Inv-loop μ-loop Inv-loop2 μ-loop2
 store-bucket-requires c κs =
-    let t = c .before in
-    let s = t .before .before .before .before in
-    let a = s .args in
-    let l = t .before .loop in
-    let more = t .loop-test .taken in
-    let p = subst GivesCells (sym (l .inv .0)) (s .pre .2) in
-    (s .pre .0, four (l .i) (l .table) (omega (arith, l .inv .1, more)), passes-first (a .width) (l .left) (drop (l .at) (a .bytes .now)) more (take (l .i) (l .table)) p)
+    let k = c .before in
+    let U = k .before .loop .inv .0 in
+    let some : 0 < k .before .loop .left = omega (arith, k .loop-test .taken) in
+    (upto-part U some, omega (arith, upto-ahead U some, k .loop-test .taken), upto-passes U some)
 
-sub-left : tie.Need-sub-left Inv-loop μ-loop
-sub-left c = omega arith
-
-loop-less : tie.Need-loop-less Inv-loop μ-loop
-loop-less c = omega arith
-
-loop-again : tie.Need-loop-again Inv-loop μ-loop
+loop-again : tie.Need-loop-again Inv-loop μ-loop Inv-loop2 μ-loop2
 loop-again c =
     let b = c .before .before in
-    let t = b .before .before in
-    let a = t .before .before .before .before .args in
-    let l = t .before .loop in
-    let more = t .loop-test .taken in
-    let k = b .store-bucket in
-    let room : l .i + 4 ≤ length (l .table) = omega (arith, l .inv .1, more) in
-    let kept = same-len-mid (l .i) (l .i + 4 - l .i) (l .table) (k .last .1 .1 .1 .0) (k .kept .1 .1 .1 .0) in (
-      store-turn (a .width) (l .left) (drop (l .at) (a .bytes .now)) more (l .at) (l .i) (k .result) (a .bytes .now) (l .table) (k .last .1 .1 .1 .0) refl room
-          (k .kept .1 .1 .1 .0 ∙ four (l .i) (l .table) room) (k .ensures) ∙ l .inv .0,
-      omega (arith, l .inv .1, more, kept),
-      kept ∙ l .inv .2,
+    let k = b .before .before in
+    let l = k .before .loop in
+    let r = b .store-bucket in
+    let part = r .last .1 .1 .1 .0 in (
+      upto-more (l .inv .0) (omega (arith, k .loop-test .taken)) part (r .result) (r .kept .1 .1 .1 .0) (r .ensures),
+      same-len-mid (l .i) (l .i + 4 - l .i) (l .table) part (r .kept .1 .1 .1 .0) ∙ l .inv .1,
     )
 
-same-length : tie.Need-same-length Inv-loop μ-loop
-same-length c = c .before .loop .inv .2
+-- ── the second ──
+loop2-holds : tie.Need-loop2-holds Inv-loop μ-loop Inv-loop2 μ-loop2
+loop2-holds c = (c .before .loop .inv .0, refl)
 
-returns : tie.Need-returns Inv-loop μ-loop
-returns c =
-    let a = c .before .before .before .before .args in
-    let l = c .before .loop in
-    store-end (a .width) (l .left) (l .i) (drop (l .at) (a .bytes .now)) (l .table) (readBuckets (a .width) (a .count) (drop (a .from) (a .bytes .now))) (c .loop-test .left) (l .inv .0) (l .inv .1)
+add-e-2 : tie.Need-add-e-2 Inv-loop μ-loop Inv-loop2 μ-loop2
+add-e-2 c = let l = c .before in omega (arith, upto-room (l .loop2 .inv .0) (c .loop2-test .taken), l .loop2 .inv .1, first l .loop .inv .1, start (first l) .good)
+
+part-store-bucket-end-2 : tie.Need-part-store-bucket-end-2 Inv-loop μ-loop Inv-loop2 μ-loop2
+part-store-bucket-end-2 c = upto-room (c .before .loop2 .inv .0) (c .loop2-test .taken)
+
+store-bucket-requires-2 : tie.Need-store-bucket-requires-2 Inv-loop μ-loop Inv-loop2 μ-loop2
+store-bucket-requires-2 c κs =
+    let k = c .before in
+    let U = k .before .loop2 .inv .0 in
+    let some = k .loop2-test .taken in
+    (upto-part U some, omega (arith, upto-inside U some), upto-passes U some)
+
+loop2-again : tie.Need-loop2-again Inv-loop μ-loop Inv-loop2 μ-loop2
+loop2-again c =
+    let b = c .before .before in
+    let k = b .before .before in
+    let l = k .before .loop2 in
+    let r = b .store-bucket2 in
+    let part = r .last .1 .1 .1 .0 in (
+      upto-more (l .inv .0) (k .loop2-test .taken) part (r .result) (r .kept .1 .1 .1 .0) (r .ensures),
+      same-len-mid (l .i) (l .i + 4 - l .i) (l .table) part (r .kept .1 .1 .1 .0) ∙ l .inv .1,
+    )
+
+same-length : tie.Need-same-length Inv-loop μ-loop Inv-loop2 μ-loop2
+same-length c = c .before .loop2 .inv .1 ∙ first (c .before) .loop .inv .1
+
+returns : tie.Need-returns Inv-loop μ-loop Inv-loop2 μ-loop2
+returns c = upto-end (c .before .loop2 .inv .0) (c .loop2-test .left)
 
 pub store-buckets-spec : {M : Type 1} → statement M
 store-buckets-spec =
@@ -89,15 +100,27 @@ store-buckets-spec =
     (tie.spec
     Inv-loop
     μ-loop
+    Inv-loop2
+    μ-loop2
     loop-holds
     add-e
-    mul-store-bucket
-    sub-store-bucket
-    part-store-bucket-start
+    (λ c. search needs)
+    (λ c. search needs)
+    (λ c. search needs)
     part-store-bucket-end
     store-bucket-requires
-    sub-left
-    loop-less
+    (λ c. search needs)
+    (λ c. search needs)
     loop-again
+    loop2-holds
+    add-e-2
+    (λ c. search needs)
+    (λ c. search needs)
+    (λ c. search needs)
+    part-store-bucket-end-2
+    store-bucket-requires-2
+    (λ c. search needs)
+    (λ c. search needs)
+    loop2-again
     same-length
     returns)

@@ -42,7 +42,10 @@ returns c =
     writer-laws (a .s) (a .table .now) (fileOf (a .s) (a .table .now)) (a .out .now) .stopped (c .before .table-refusal .ensures) (c .if1 .taken)
 
 body-size-requires : tie.Need-body-size-requires
-body-size-requires c κs = let S = passes (c .before) in (laws _ (S .settings) .width-high, S .size)
+body-size-requires c κs =
+    let S = passes (c .before) in
+    let L = laws _ (S .settings) in
+    (L .width-high, S .size, L .few-buckets)
 
 returns-2 : tie.Need-returns-2
 unfolding writeFile

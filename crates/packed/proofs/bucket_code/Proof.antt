@@ -15,8 +15,8 @@ cast-c c = fits-under _ _ _ (c .shared-slice-known4 .given _ .fits) tt
 cast-d : tie.Need-cast-d
 cast-d c = fits-under _ _ _ (c .shared-slice-known5 .given _ .fits) tt
 
-code-of-requires : tie.Need-code-of-requires
-code-of-requires c κs =
+code-by-requires : tie.Need-code-by-requires
+code-by-requires c κs =
     let s = c .before .before .before .before .before .before in
     let f = sorted-asked (s .pre) (c .sorted .ensures) in
     (s .pre .counts-are, s .pre .width, f .0, f .1)
@@ -24,7 +24,7 @@ code-of-requires c κs =
 returns : tie.Need-returns
 returns c =
     let f = c .before in
-    bucket-made (f .before .before .before .before .before .before .pre) (f .sorted .ensures) (c .code-of .ensures)
+    bucket-made (f .before .before .before .before .before .before .pre) (f .sorted .ensures) (c .code-by .ensures)
 
 pub bucket-code-spec : {M : Type 1} → statement M
 bucket-code-spec =
@@ -50,5 +50,5 @@ bucket-code-spec =
     (λ c. search needs)
     (λ c. search needs)
     (λ c. search needs)
-    code-of-requires
+    code-by-requires
     returns)

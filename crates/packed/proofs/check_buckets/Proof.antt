@@ -1,10 +1,9 @@
-use Prim.Native.Nat.{_≤_, _-_}
+use Prim.Native.Nat.{_-_}
 use borrow.Author.Needs.{needs}
 use native.Mathlib.Omega.{arith}
-use Rattle.index.proofs.Laws.{laws}
 use Rattle.lemmas.specs.Bytes.{numberFrom}
-use Rattle.packed.proofs.Bytes.{width-of}
-use Rattle.packed.proofs.Reading.{CellsCounted, bucket-inside, counted-none, counted-refused, counted-few, counted-more, counted-filling, counted-all}
+use Rattle.packed.specs.Internal.{CellsCounted}
+use Rattle.packed.proofs.Reading.{counted-refused, counted-few, counted-more, counted-filling, counted-all}
 use Rattle.packed.proofs.check_buckets.Statement.{statement}
 use Rattle.packed.proofs.check_buckets.Tie as tie
 
@@ -14,22 +13,8 @@ Inv-loop quads s bytes w m count₀ b₀ count b = CellsCounted w m (numberFrom 
 abbrev μ-loop : tie.MeasureT-loop
 μ-loop quads s bytes w m count₀ b₀ count b = m - b
 
-few : (c : tie.Start Inv-loop μ-loop) → c .args .s .buckets ≤ 65536
-few c = laws (c .args .s) (c .pre .1 .settings) .few-buckets
-
-cast-m : tie.Need-cast-m Inv-loop μ-loop
-cast-m c = omega (arith, few (c .before .before))
-
-loop-holds : tie.Need-loop-holds Inv-loop μ-loop
-loop-holds c = let a = c .before .before .args in counted-none (a .s .width) (a .s .buckets) (numberFrom (a .bytes .now))
-
-code-at-requires : tie.Need-code-at-requires Inv-loop μ-loop
-code-at-requires c κs =
-    let s = c .before .before .before .before in
-    (width-of _ (s .pre .1 .settings), omega (arith, few s, c .loop-test .taken), bucket-inside (s .pre .1) _ (c .loop-test .taken))
-
-check-code-requires : tie.Need-check-code-requires Inv-loop μ-loop
-check-code-requires c κs = let s = c .before .before .before .before .before in (s .pre .0, width-of _ (s .pre .1 .settings))
+abbrev start : tie.At-loop Inv-loop μ-loop → tie.Start Inv-loop μ-loop
+start l = l .before .before .before .before
 
 returns : tie.Need-returns Inv-loop μ-loop
 returns c =
@@ -37,27 +22,14 @@ returns c =
     let l = k .before .before in
     counted-refused (l .before .loop .inv) (l .loop-test .taken) (k .before .code-at .ensures) (k .check-code .ensures) _ (c .enum-told .given .1)
 
-add-count : tie.Need-add-count Inv-loop μ-loop
-add-count c =
-    let k = c .before .before .before in
-    let l = k .before .before in
-    let most = counted-few (l .before .loop .inv) (l .loop-test .taken) (k .before .code-at .ensures) (k .check-code .ensures) _ (c .before .found .given .1) in
-    omega (arith, most, few (l .before .before .before .before))
-
-add-b : tie.Need-add-b Inv-loop μ-loop
-add-b c = let l = c .before .before .before .before .before in omega (arith, few (l .before .before .before .before), l .loop-test .taken)
-
-loop-less : tie.Need-loop-less Inv-loop μ-loop
-loop-less c = omega (arith, c .before .before .before .before .before .loop-test .taken)
-
 loop-again : tie.Need-loop-again Inv-loop μ-loop
 loop-again c =
     let k = c .before .before .before in
-    let l = k .before .before in
-    counted-more (l .before .loop .inv) (l .loop-test .taken) (k .before .code-at .ensures) (k .check-code .ensures) _ (c .before .found .given .1)
+    let t = k .before .before in
+    counted-more (t .before .loop .inv) (t .loop-test .taken) (k .before .code-at .ensures) (k .check-code .ensures) _ (c .before .found .given .1)
 
-filling-set-requires : tie.Need-filling-set-requires Inv-loop μ-loop
-filling-set-requires c κs = c .before .before .before .before .pre .1
+add-count : tie.Need-add-count Inv-loop μ-loop
+add-count c = omega (arith, counted-few (loop-again c), start (c .before .before .before .before .before .before) .pre .1 .few)
 
 returns-2 : tie.Need-returns-2 Inv-loop μ-loop
 returns-2 c =
@@ -77,17 +49,18 @@ check-buckets-spec =
     (tie.spec
     Inv-loop
     μ-loop
-    cast-m
-    loop-holds
-    code-at-requires
-    check-code-requires
+    (λ c. omega arith)
+    (λ c κs. search needs)
     (λ c. search needs)
-    (λ c. search needs)
+    (λ c κs. search needs)
+    (λ c κs. search needs)
+    (λ c. omega arith)
+    (λ c. omega arith)
     returns
     add-count
-    add-b
-    loop-less
+    (λ c. omega arith)
+    (λ c. omega arith)
     loop-again
-    filling-set-requires
+    (λ c κs. search needs)
     returns-2
     returns-3)

@@ -1,7 +1,7 @@
-use Prim.Native.Nat.{_*_, _-_}
+use Prim.Native.Nat.{_*_, _-_, _/_, _%_}
 use native.Mathlib.Omega.{arith}
 use Rattle.lemmas.proofs.Bytes.{all-bytes}
-use Rattle.packed.proofs.Bytes.{half-fits}
+use Rattle.packed.proofs.Bytes.{half-bits, half-fits}
 use Rattle.packed.proofs.Reading.{code-read}
 use Rattle.packed.proofs.Words.{shifted-one}
 use borrow.Author.Needs.{needs}
@@ -22,7 +22,8 @@ returns c =
     let k = c .before in
     let s = k .before in
     let bytes = s .args .bytes .now in
-    code-read (s .args .w) (s .args .b) bytes (s .pre .0) (all-bytes bytes (λ i. k .shared-slice-known .given i .fits)) (c .word-at .result) (c .word-at .ensures)
+    let half = (s .args .w - 1) * s .args .b in
+    code-read (s .pre .0) (s .args .b) (half / 2) (half % 2 * 4) (omega (arith, half-bits (s .args .w) (s .args .b))) (omega arith) bytes (all-bytes bytes (λ i. k .shared-slice-known .given i .fits)) (c .word-at .ensures)
 
 pub code-at-spec : {M : Type 1} → statement M
 code-at-spec =

@@ -1,6 +1,5 @@
 use borrow.Author.Needs.{needs}
 use native.Mathlib.Omega.{arith}
-use Rattle.index.proofs.Laws.{laws}
 use Rattle.lemmas.proofs.Bytes.{all-bytes}
 use Rattle.packed.proofs.Bytes.{half-fits}
 use Rattle.packed.proofs.Reading.{some-bytes, filling-none, filling-last}
@@ -8,13 +7,12 @@ use Rattle.packed.proofs.filling_set.Statement.{statement}
 use Rattle.packed.proofs.filling_set.Tie as tie
 
 sub-half : tie.Need-sub-half
-sub-half c = let s = c .before in omega (arith, laws (s .args .s) (s .pre .settings) .width-low)
+sub-half c = omega (arith, c .before .pre .width .low)
 
 mul-half : tie.Need-mul-half
 mul-half c =
     let s = c .before in
-    let L = laws (s .args .s) (s .pre .settings) in
-    omega (arith, half-fits (s .args .s .width) (s .args .s .buckets) (L .width-high) (L .few-buckets))
+    omega (arith, half-fits (s .args .s .width) (s .args .s .buckets) (s .pre .width .high) (s .pre .few))
 
 sub-last : tie.Need-sub-last
 sub-last c = some-bytes (c .before .pre)

@@ -2,7 +2,10 @@ use borrow.Author.Needs.{needs}
 use native.Mathlib.Omega.{arith}
 use Rattle.calls.specs.Calls.{Sound}
 use Rattle.calls.proofs.Laws.{table-check-laws}
+use Rattle.index.proofs.Laws.{laws}
+use Rattle.packed_form.specs.Writer.{packedLength}
 use Rattle.packed_form.proofs.Laws.{packed-laws}
+use Rattle.packed.proofs.Bytes.{width-of}
 use Rattle.packed.proofs.Reading.{call-stops, call-passes, call-stores}
 use Rattle.packed.specs.Internal.{Input}
 use Rattle.packed.proofs.read.Statement.{statement}
@@ -13,11 +16,14 @@ passes : (c : tie.Else1) → let a = c .before .before .before .before .before .
 passes c = table-check-laws _ _ .passed (c .before .table-refusal .ensures) (c .if1 .left)
 
 -- and past those of the length
-input : (c : tie.Else3) → let a = c .before .before .before .before .before .before .before .before .args in Input (a .s) (a .bytes .now)
+input : (c : tie.Else3) → let a = c .before .before .before .before .before .before .before .before .args in Input (a .s .width) (a .s .buckets) (a .bytes .now)
+unfolding packedLength
 input c =
     let e = c .before in
     let l = e .before in
-    record { settings = passes (l .before) .settings; size = omega (arith, l .packed-length .ensures, e .if2 .left, c .if3 .left) }
+    let good = passes (l .before) .settings in
+    let L = laws _ good in
+    record { width = width-of _ good; some = L .some-bucket; few = L .few-buckets; size = omega (arith, l .packed-length .ensures, e .if2 .left, c .if3 .left) }
 
 returns : tie.Need-returns
 returns c = packed-laws .read-stopped _ _ _ (c .before .table-refusal .ensures) (c .if1 .taken)
@@ -46,7 +52,7 @@ store-buckets-requires c κs =
     let k = g .before .before in
     let e = k .before .before .before in
     let S = passes (e .before .before .before) in
-    (k .before .before .table .ensures, input e, S .size, call-passes S (input e) _ (g .answer .given .1) (k .check-buckets .ensures))
+    record { quads-are = k .before .before .table .ensures; input = input e; size = S .size; passes = call-passes S (input e) _ (g .answer .given .1) (k .check-buckets .ensures) }
 
 returns-5 : tie.Need-returns-5
 returns-5 c =

@@ -1,59 +1,43 @@
-use Prim.Native.Nat.{ℕ, _≤_, _<_, _*_, _-_, _/_, _^_}
-use mathlib.Core.Bool.{_||_, or-false}
-use mathlib.Core.List.{List}
-use mathlib.Core.Path.{_≡_, refl, sym, ap, _∙_}
+use Prim.Native.Nat.{_≤_, _<_, _-_, _*_, _%_, _^_}
+use borrow.Author.Needs.{needs}
+use borrow.Author.Tests.{lt-leb}
+use lib.Dec.{leb}
+use lib.ListN.{length, drop}
+use lib.Pow.{pow-pos, shl-exact}
+use mathlib.Core.Bool.{Bool, _||_}
+use mathlib.Core.Path.{_≡_, sym, ap, _∙_}
+use native.Mathlib.Nat.{one-mul}
 use native.Mathlib.Omega.{arith}
-use lib.ListN.{length, getD, drop, drop-of-length-le}
-use Rattle.packed.proofs.Buckets.{some-over, over-few, over-next}
 use Rattle.calls.specs.WrittenForms.{anyFrom}
+use Rattle.packed.proofs.Buckets.{any-turn, any-end}
 use Rattle.packed.proofs.too_wide.Statement.{statement}
 use Rattle.packed.proofs.too_wide.Tie as tie
 
 abbrev Inv-loop : tie.InvT-loop
-Inv-loop w table over₀ i₀ over i = (i ≤ length table) × (over ≤ 4095 * i) × ((some-over over || anyFrom (2 ^ w) (drop i table)) ≡ anyFrom (2 ^ w) table)
+Inv-loop w table top₀ i₀ top i = (i ≤ length table) × (top < 65536) × ((leb (2 ^ w) top || anyFrom (2 ^ w) (drop i table)) ≡ anyFrom (2 ^ w) table)
 
 abbrev μ-loop : tie.MeasureT-loop
-μ-loop w table over₀ i₀ over i = length table - i
+μ-loop w table top₀ i₀ top i = length table - i
 
 loop-holds : tie.Need-loop-holds Inv-loop μ-loop
-loop-holds c = (omega arith, omega arith, refl)
-
-mul-over : tie.Need-mul-over Inv-loop μ-loop
-mul-over c = omega arith
-
-shared-slice-read-over : tie.Need-shared-slice-read-over Inv-loop μ-loop
-shared-slice-read-over c = omega arith
-
-cast-over : tie.Need-cast-over Inv-loop μ-loop
-cast-over c = omega (arith, c .shared-slice-known .given (c .before .before .loop .i))
-
-shr-over : tie.Need-shr-over Inv-loop μ-loop
-shr-over c = omega arith
-
-few : (c : tie.After-shared-slice-known Inv-loop μ-loop) → let l = c .before .before in let s = l .before in getD (s .args .table .now) (l .loop .i) 0 / 2 ^ s .args .w < 4096
-few c = over-few _ _ (c .before .before .before .pre .0 .low) (c .shared-slice-known .given (c .before .before .loop .i) .fits)
-
-add-over : tie.Need-add-over Inv-loop μ-loop
-add-over c = omega (arith, few c)
-
-add-i : tie.Need-add-i Inv-loop μ-loop
-add-i c = omega arith
-
-loop-less : tie.Need-loop-less Inv-loop μ-loop
-loop-less c = omega arith
+loop-holds c =
+    let a = c .before .args in
+    (omega arith, omega arith, ap (λ (b : Bool). b || anyFrom (2 ^ a .w) (a .table .now)) (lt-leb (2 ^ a .w) 0 (pow-pos (a .w))))
 
 loop-again : tie.Need-loop-again Inv-loop μ-loop
 loop-again c =
-    let l = c .before .before in
-    let a = l .before .args in
-    (omega arith, omega (arith, few c), over-next (a .w) (a .table .now) (l .loop .i) (l .loop .over) (c .before .loop-test .taken) ∙ l .loop .inv .2)
+    let t = c .before .before in
+    let l = t .before in
+    let a = l .before .before .args in
+    (omega arith, omega arith, any-turn (2 ^ a .w) (a .table .now) (l .loop .i) (l .loop .top) (c .higher .ensures) (t .loop-test .taken) ∙ l .loop .inv .2)
 
 returns : tie.Need-returns Inv-loop μ-loop
 returns c =
     let l = c .before in
-    let a = l .before .args in
-    let none-left = drop-of-length-le (a .table .now) (c .loop-test .left) in
-    sym (or-false (some-over (l .loop .over))) ∙ ap (λ (t : List ℕ). some-over (l .loop .over) || anyFrom (2 ^ a .w) t) (sym none-left) ∙ l .loop .inv .2
+    let s = l .before .before in
+    let n = 2 ^ s .args .w in
+    let shifted : 1 * n % 2 ^ 32 ≡ n = shl-exact {a = 1} 1 (s .args .w) 32 (omega arith) (omega arith) ∙ one-mul n in
+    rw shifted (sym (any-end n (s .args .table .now) (l .loop .i) (l .loop .top) (c .loop-test .left)) ∙ l .loop .inv .2)
 
 pub too-wide-spec : {M : Type 1} → statement M
 too-wide-spec =
@@ -62,12 +46,12 @@ too-wide-spec =
     Inv-loop
     μ-loop
     loop-holds
-    mul-over
-    shared-slice-read-over
-    cast-over
-    shr-over
-    add-over
-    add-i
-    loop-less
+    (λ c. omega arith)
+    (λ c. omega arith)
+    (λ c κs. search needs)
+    (λ c. omega arith)
+    (λ c. omega arith)
     loop-again
+    (λ c. omega arith)
+    (λ c. omega arith)
     returns)

@@ -1,7 +1,6 @@
 use borrow.Author.Needs.{needs}
 use mathlib.Core.Path.{sym, _∙_}
 use native.Mathlib.Omega.{arith}
-use Rattle.index.proofs.Laws.{laws}
 use Rattle.calls.specs.Calls.{Sound}
 use Rattle.calls.proofs.Laws.{table-check-laws, writer-laws}
 use Rattle.packed_form.specs.RoundTrip.{Packable}
@@ -24,7 +23,7 @@ unfolding writePacked
 returns c = writer-laws _ _ _ _ .stopped (c .before .table-refusal .ensures) (c .if1 .taken)
 
 too-wide-requires : tie.Need-too-wide-requires
-too-wide-requires c κs = let S = passes c in (width-of _ (S .settings), omega (arith, laws _ (S .settings) .few-buckets, S .size))
+too-wide-requires c κs = width-of _ (passes c .settings)
 
 returns-2 : tie.Need-returns-2
 unfolding writePacked

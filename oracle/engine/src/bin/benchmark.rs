@@ -2,15 +2,21 @@
 //!
 //! Each measurement is taken several times, the sides in turn, and the medians are printed with
 //! their ratio: below 1.00 the engine is faster. All are optimised; the engine is called through
-//! the C boundary, the other implementation through functions that are not inlined. Lookups are
-//! measured against the other implementation's plain form and against its fast one.
+//! the C boundary, the other implementation through functions that are not inlined. Beside its
+//! plain form, some calls are measured against others that it has:
+//!
+//! - lookups against a branch-free one;
+//! - the hold file against a branch-free one in ordinary Rust, and against the fastest one, which
+//!   uses the processor's own instructions and reads in several places at once;
+//! - the packed form against the fastest one. Its plain form has no branch that data decides and is
+//!   made for each width.
 //!
 //! `./benchmark` at the top of the repository makes the engine's library and runs this.
 
 use engine::boundary::Engine;
 use oracle::index::{Settings, MASKED, PLAIN, RING};
 use oracle::requests::Mix;
-use oracle::{fast, holdfile, packed, table};
+use oracle::{branch_free, fast, holdfile, packed, table};
 use std::ptr;
 use std::time::Instant;
 
@@ -19,11 +25,12 @@ const WIDTH: u32 = 16;
 const ENGINE: Engine = Engine { null: false };
 
 /// One side: every call answers a number, below 0 for a refusal. Fast is the other implementation in
-/// the form that is written for speed, where a call has one.
+/// the form that is written for speed, and BranchFree the one between the two, where a call has one.
 #[derive(Clone, Copy)]
 enum Side {
     Engine,
     Other,
+    BranchFree,
     Fast,
 }
 
@@ -36,7 +43,9 @@ impl Side {
     fn hold(self, s: &Settings, cells: &mut [u16], scratch: &mut [u32], tag: &[u8]) -> i64 {
         match self {
             Side::Engine => ENGINE.hold(s, cells, scratch, tag),
-            Side::Other | Side::Fast => signed(table::hold(*s, cells, scratch, tag), i64::from),
+            Side::Other | Side::BranchFree | Side::Fast => {
+                signed(table::hold(*s, cells, scratch, tag), i64::from)
+            }
         }
     }
 
@@ -44,7 +53,7 @@ impl Side {
     fn lookup(self, s: &Settings, cells: &[u16], tag: &[u8]) -> i64 {
         match self {
             Side::Engine => ENGINE.lookup(s, cells, tag),
-            Side::Other => signed(table::lookup(*s, cells, tag), i64::from),
+            Side::Other | Side::BranchFree => signed(table::lookup(*s, cells, tag), i64::from),
             Side::Fast => signed(fast::lookup(s, cells, tag), i64::from),
         }
     }
@@ -53,7 +62,9 @@ impl Side {
     fn release(self, s: &Settings, cells: &mut [u16], tag: &[u8]) -> i64 {
         match self {
             Side::Engine => ENGINE.release(s, cells, tag),
-            Side::Other | Side::Fast => signed(table::release(*s, cells, tag), i64::from),
+            Side::Other | Side::BranchFree | Side::Fast => {
+                signed(table::release(*s, cells, tag), i64::from)
+            }
         }
     }
 
@@ -61,7 +72,9 @@ impl Side {
     fn file_write(self, s: &Settings, cells: &[u16], out: &mut [u8]) -> i64 {
         match self {
             Side::Engine => ENGINE.file_write(s, cells, out),
-            Side::Other | Side::Fast => signed(holdfile::write(*s, cells, out), |n| n as i64),
+            Side::Other => signed(holdfile::write(*s, cells, out), |n| n as i64),
+            Side::BranchFree => signed(branch_free::write(s, cells, out), |n| n as i64),
+            Side::Fast => signed(fast::holdfile::write(s, cells, out), |n| n as i64),
         }
     }
 
@@ -69,7 +82,9 @@ impl Side {
     fn file_read(self, bytes: &[u8], cells: &mut [u16]) -> i64 {
         match self {
             Side::Engine => ENGINE.file_read(bytes, cells, &mut [0; 4]),
-            Side::Other | Side::Fast => signed(holdfile::read(bytes, cells), |_| 0),
+            Side::Other => signed(holdfile::read(bytes, cells), |_| 0),
+            Side::BranchFree => signed(branch_free::read(bytes, cells), |_| 0),
+            Side::Fast => signed(fast::holdfile::read(bytes, cells), |_| 0),
         }
     }
 
@@ -77,7 +92,8 @@ impl Side {
     fn packed_write(self, s: &Settings, cells: &[u16], out: &mut [u8]) -> i64 {
         match self {
             Side::Engine => ENGINE.packed_write(s, cells, out),
-            Side::Other | Side::Fast => signed(packed::write(*s, cells, out), |n| n as i64),
+            Side::Other | Side::BranchFree => signed(packed::write(*s, cells, out), |n| n as i64),
+            Side::Fast => signed(fast::packed::write(s, cells, out), |n| n as i64),
         }
     }
 
@@ -85,7 +101,8 @@ impl Side {
     fn packed_read(self, s: &Settings, bytes: &[u8], cells: &mut [u16]) -> i64 {
         match self {
             Side::Engine => ENGINE.packed_read(s, bytes, cells),
-            Side::Other | Side::Fast => signed(packed::read(*s, bytes, cells), |n| n as i64),
+            Side::Other | Side::BranchFree => signed(packed::read(*s, bytes, cells), |n| n as i64),
+            Side::Fast => signed(fast::packed::read(s, bytes, cells), |n| n as i64),
         }
     }
 }
@@ -140,6 +157,10 @@ fn row(name: &str, unit: &str, [engine, other]: [f64; 2], ratio: f64) {
 fn time(name: &str, pair: [f64; 2]) {
     row(name, "ns", pair, pair[0] / pair[1]);
 }
+
+/// The rows that follow the one against the plain form.
+const BRANCH_FREE_ROW: &str = "the same, against a branch-free one";
+const FASTEST_ROW: &str = "the same, against the fastest one";
 
 /// A speed: the ratio is turned round, so that below 1.00 the engine is faster.
 fn speed(name: &str, bytes: usize, nanos: [f64; 2]) {
@@ -219,7 +240,7 @@ fn table_rows(name: &str, s: &Settings) {
             nanos / tags.len() as f64
         });
         time(&format!("{name}, lookup, {what}"), [engine, other]);
-        time("the same, against a branch-free one", [engine, fast]);
+        time(BRANCH_FREE_ROW, [engine, fast]);
     }
     let released = measure(|side| {
         let mut cells = cells.clone();
@@ -234,41 +255,47 @@ fn table_rows(name: &str, s: &Settings) {
     time(&format!("{name}, release"), released);
 }
 
+/// A call for the hold file, of so many bytes, against the plain form, the branch-free one and the
+/// fastest one.
+fn file_rows(name: &str, bytes: usize, mut call: impl FnMut(Side) -> i64) {
+    let sides = [Side::Engine, Side::Other, Side::BranchFree, Side::Fast];
+    let [engine, other, branch_free, fast] = medians(sides, |side| timed(|| used(call(side))));
+    speed(name, bytes, [engine, other]);
+    speed(BRANCH_FREE_ROW, bytes, [engine, branch_free]);
+    speed(FASTEST_ROW, bytes, [engine, fast]);
+}
+
+/// A call for the packed form, of so many bytes, against the plain form and the fastest one.
+fn packed_rows(name: &str, bytes: usize, mut call: impl FnMut(Side) -> i64) {
+    let sides = [Side::Engine, Side::Other, Side::Fast];
+    let [engine, other, fast] = medians(sides, |side| timed(|| used(call(side))));
+    speed(name, bytes, [engine, other]);
+    speed(FASTEST_ROW, bytes, [engine, fast]);
+}
+
 /// The two forms of a table filled to a share of its cells.
 fn format_rows(s: &Settings, share: f64) {
-    let at = format!("at {:.0} %", 100.0 * share);
+    let at = format!("width {}, at {:.0} %", s.width, 100.0 * share);
     let list = tags(1, 4 * s.buckets as usize);
     let (cells, _, _) = filled(s, share, &list);
     let mut out = vec![0; 1 << 20];
     let size = Side::Other.file_write(s, &cells, &mut out) as usize;
     let file = out[..size].to_vec();
-    let written = measure(|side| {
-        timed(|| {
-            used(side.file_write(s, &cells, &mut out));
-        })
+    file_rows(&format!("hold file, write, {at}"), size, |side| {
+        side.file_write(s, &cells, &mut out)
     });
-    speed(&format!("hold file, write, {at}"), size, written);
     let mut table = cells.clone();
-    let read = measure(|side| {
-        timed(|| {
-            used(side.file_read(&file, &mut table));
-        })
+    file_rows(&format!("hold file, read, {at}"), size, |side| {
+        side.file_read(&file, &mut table)
     });
-    speed(&format!("hold file, read, {at}"), size, read);
     let size = Side::Other.packed_write(s, &cells, &mut out) as usize;
     let form = out[..size].to_vec();
-    let written = measure(|side| {
-        timed(|| {
-            used(side.packed_write(s, &cells, &mut out));
-        })
+    packed_rows(&format!("packed form, write, {at}"), size, |side| {
+        side.packed_write(s, &cells, &mut out)
     });
-    speed(&format!("packed form, write, {at}"), size, written);
-    let read = measure(|side| {
-        timed(|| {
-            used(side.packed_read(s, &form, &mut table));
-        })
+    packed_rows(&format!("packed form, read, {at}"), size, |side| {
+        side.packed_read(s, &form, &mut table)
     });
-    speed(&format!("packed form, read, {at}"), size, read);
 }
 
 fn main() {
@@ -290,7 +317,9 @@ fn main() {
             holds(&s, 0.85, 0.9, &list),
         );
     }
-    for share in [0.95, 0.5] {
-        format_rows(&Settings::new(PLAIN, WIDTH, 65_536, 0), share);
+    for width in [WIDTH, 12] {
+        for share in [0.95, 0.5] {
+            format_rows(&Settings::new(PLAIN, width, 65_536, 0), share);
+        }
     }
 }
