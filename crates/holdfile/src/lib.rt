@@ -273,7 +273,7 @@ fn bucket_by_cells(bytes: &[u8], at: usize, width: u32) -> Pass
 }
 
 // The bytes of a bucket by the byte that marks its cells: digit by digit of one word, for 15 down to 0. A sum of the four marks would be
-// right as well, but the place of every later bucket waits for it.
+// right as well, but takes longer, and the place of every later bucket waits for it.
 fn bucket_size(marks: u8) -> usize
     ensures { λ r. ⌜ r ≡ bucketSize marks ⌝ }
 {
@@ -387,7 +387,7 @@ fn store_bucket(bytes: &[u8], at: usize, width: u32, part: &mut [u16], ahead: bo
     at + bucket_size(m)
 }
 
-// The second pass: every bucket into the table.
+// The second pass: every bucket into the table. Behind all but the last eight stand eight bytes at least, one for each bucket.
 fn store_buckets(bytes: &[u8], from: usize, width: u32, count: u32, table: &mut [u16])
     requires { ⌜ (length (now table) ≡ 4 * count) × GivesCells (readBuckets width count (drop from (now bytes))) ⌝ }
     ensures { λ r. ⌜ now (table .exit) ≡ cellsRead (readBuckets width count (drop from (now (bytes .entry)))) ⌝ }

@@ -68,42 +68,32 @@ size c =
 put-byte-requires : tie.Need-put-byte-requires
 put-byte-requires c κs = omega (arith, room (start (read (c .before))))
 
+-- what each part leaves room for
+room1 : (c : tie.After-put-byte)
+    → let s = start (read (back0 c)) in
+    c .put-byte .result + length (first s) + length (cell s 1) + length (cell s 2) + length (cell s 3) + slack (s .args .ahead) ≤ length (c .put-byte .last .0)
+room1 c = omega (arith, room (start (read (back0 c))), c .put-byte .ensures .place, c .put-byte .kept .0)
+
+room2 : (c : tie.After-put-cell)
+    → let s = start (read (back0 (back1 c))) in
+    c .put-cell .result + length (cell s 1) + length (cell s 2) + length (cell s 3) + slack (s .args .ahead) ≤ length (c .put-cell .last .0)
+room2 c = omega (arith, room1 (back1 c), c .put-cell .ensures .place, c .put-cell .kept .0)
+
+room3 : (c : tie.After-put-cell2)
+    → let s = start (read (back0 (back1 (back2 c)))) in c .put-cell2 .result + length (cell s 2) + length (cell s 3) + slack (s .args .ahead) ≤ length (c .put-cell2 .last .0)
+room3 c = omega (arith, room2 (back2 c), c .put-cell2 .ensures .place, c .put-cell2 .kept .0)
+
 put-cell-requires : tie.Need-put-cell-requires
-put-cell-requires c κs =
-    let p = c .before .before .before in
-    omega (arith, room (start (read (back0 p))), p .put-byte .ensures .place, p .put-byte .kept .0)
+put-cell-requires c κs = omega (arith, room1 (c .before .before .before))
 
 put-cell-requires-2 : tie.Need-put-cell-requires-2
-put-cell-requires-2 c κs =
-    let a = c .before .before .before in
-    let p = back1 a in
-    omega (arith, room (start (read (back0 p))), p .put-byte .ensures .place, p .put-byte .kept .0, a .put-cell .ensures .place, a .put-cell .kept .0)
+put-cell-requires-2 c κs = omega (arith, room2 (c .before .before .before))
 
 put-cell-requires-3 : tie.Need-put-cell-requires-3
-put-cell-requires-3 c κs =
-    let b = c .before .before .before in
-    let a = back2 b in
-    let p = back1 a in
-    omega (arith, room (start (read (back0 p))), p .put-byte .ensures .place, p .put-byte .kept .0, a .put-cell .ensures .place, a .put-cell .kept .0, b .put-cell2 .ensures .place, b .put-cell2 .kept .0)
+put-cell-requires-3 c κs = omega (arith, room3 (c .before .before .before))
 
 put-cell-requires-4 : tie.Need-put-cell-requires-4
-put-cell-requires-4 c κs =
-    let d = c .before .before .before in
-    let b = back3 d in
-    let a = back2 b in
-    let p = back1 a in
-    omega (
-      arith,
-      room (start (read (back0 p))),
-      p .put-byte .ensures .place,
-      p .put-byte .kept .0,
-      a .put-cell .ensures .place,
-      a .put-cell .kept .0,
-      b .put-cell2 .ensures .place,
-      b .put-cell2 .kept .0,
-      d .put-cell3 .ensures .place,
-      d .put-cell3 .kept .0,
-    )
+put-cell-requires-4 c κs = let d = c .before .before .before in omega (arith, room3 (back3 d), d .put-cell3 .ensures .place, d .put-cell3 .kept .0)
 
 -- all parts stored
 abbrev stored : tie.After-put-cell4 → tie.After-put-cell3

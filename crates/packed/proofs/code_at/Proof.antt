@@ -23,7 +23,8 @@ returns c =
     let s = k .before in
     let bytes = s .args .bytes .now in
     let half = (s .args .w - 1) * s .args .b in
-    code-read (s .pre .0) (s .args .b) (half / 2) (half % 2 * 4) (omega (arith, half-bits (s .args .w) (s .args .b))) (omega arith) bytes (all-bytes bytes (λ i. k .shared-slice-known .given i .fits)) (c .word-at .ensures)
+    code-read (s .pre .0) (s .args .b) (half / 2) (half % 2 * 4) (omega (arith, half-bits (s .args .w) (s .args .b))) (omega arith)
+    bytes (all-bytes bytes (λ i. k .shared-slice-known .given i .fits)) (c .word-at .ensures)
 
 pub code-at-spec : {M : Type 1} → statement M
 code-at-spec =

@@ -28,7 +28,8 @@ once k =
     let q = k .before .before in
     let t = q .before in
     let h = within t in
-    stored-more (start (t .before) .pre .passes) (t .before .loop .inv) (omega arith) (q .pair-ahead .ensures .0) (8 * t .before .loop .p) (omega arith) (k .store-code .ensures) (k .store-code .kept .1 .1 .1 .0)
+    stored-more (start (t .before) .pre .passes) (t .before .loop .inv) (omega arith) (q .pair-ahead .ensures .0)
+    (8 * t .before .loop .p) (omega arith) (k .store-code .ensures) (k .store-code .kept .1 .1 .1 .0)
 
 loop-holds : tie.Need-loop-holds Inv-loop μ-loop
 loop-holds c = let s = c .before .before .before in stored-none (s .args .w) (s .args .m) (numberFrom (s .args .bytes .now)) (s .args .table .now) (s .pre .size)

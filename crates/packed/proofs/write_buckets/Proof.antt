@@ -39,14 +39,16 @@ write-run-requires : tie.Need-write-run-requires
 write-run-requires c κs =
     let a = c .before .before in
     let l = room a in
-    run-fits (start l .pre .0) (l .packed-length .ensures) _ _ true (a .before .counts .ensures) (enough l) (omega arith) (omega (arith, a .ahead .ensures)) (λ e. ahead-few (start l .args .s .buckets) _ (a .ahead .ensures))
+    run-fits (start l .pre .0) (l .packed-length .ensures) _ _ true (a .before .counts .ensures)
+    (enough l) (omega arith) (omega (arith, a .ahead .ensures)) (λ e. ahead-few (start l .args .s .buckets) _ (a .ahead .ensures))
 
 write-run-requires-2 : tie.Need-write-run-requires-2
 write-run-requires-2 c κs =
     let r = c .before .before .before .before in
     let a = many r in
     let l = room a in
-    run-fits (start l .pre .0) (l .packed-length .ensures) _ _ false (a .before .counts .ensures) (enough-first r) (omega (arith, a .ahead .ensures)) (omega arith) (λ e. absurd (let z : _≡_ {A = ℕ} 0 1 = cc in omega arith))
+    run-fits (start l .pre .0) (l .packed-length .ensures) _ _ false (a .before .counts .ensures)
+    (enough-first r) (omega (arith, a .ahead .ensures)) (omega arith) (λ e. absurd (let z : _≡_ {A = ℕ} 0 1 = cc in omega arith))
 
 place-fits : (q : tie.After-write-run2) → let l = room (many (first q)) in let a = start l .args in
     (1 ≤ a .s .width) × ((a .s .width - 1) * (a .s .buckets / 2) ≤ l .packed-length .result) × (l .packed-length .result < 2 ^ 32)

@@ -45,7 +45,8 @@ loop-again c =
     let e = d .before in
     let t = e .before in
     let l = t .before in
-    (omega arith, p .write-pair .kept .0 ∙ l .loop .inv .1, run-more (start l .pre) (t .loop-test .taken) (e .bucket-code .ensures) (d .bucket-code2 .ensures) (l .loop .inv .2) (p .write-pair .ensures))
+    let more = run-more (start l .pre) (t .loop-test .taken) (e .bucket-code .ensures) (d .bucket-code2 .ensures) (l .loop .inv .2) (p .write-pair .ensures) in
+    (omega arith, p .write-pair .kept .0 ∙ l .loop .inv .1, more)
 
 returns : tie.Need-returns Inv-loop μ-loop
 returns c =
