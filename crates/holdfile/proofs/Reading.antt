@@ -9,7 +9,8 @@ use Prim.Native.Nat.{ℕ, zero, suc, _+_, _*_, _-_, _%_, _^_, _≤_, _<_}
 use native.Mathlib.Nat.{one-mul}
 use native.Mathlib.Numerals.{add-one}
 use native.Mathlib.Omega.{arith}
-use borrow.Author.Tests.{not-true, le-leb, lt-leb, leb-true, leb-false}
+use native.Mathlib.Decide.{decLe}
+use borrow.Author.Tests.{not-true, le-leb, lt-leb}
 use lib.Dec.{eqb, leb}
 use borrow.Rule.Slice.PartMut.{midOf, postOf, putMid, mid-len, same-len-mid}
 use lib.ListN.{length, take, drop, getD, set, length-append, drop-of-length-le}
@@ -177,18 +178,27 @@ places-end at m = omega arith
 pub size-few : (m : ℕ) → bucketSize m ≤ 9
 size-few m = omega (arith, cond-le (bit0 m) 2, cond-le (bit1 m) 2, cond-le (bit2 m) 2, cond-le (bit3 m) 2)
 
--- a cell that stands in the bytes and fits, or is not marked
-cell-known : {B : Type 0} (w : ℕ) (l : List ℕ) (t : Bool) (at : ℕ) (then : ℕ → List ℕ → Parsed B) → at + 2 ≤ length l → unfitOf w t (pairFrom l at) ≡ false
-    → andThen (readCell w t (drop at l)) then ≡ then (cellFrom l at t) (drop (at + cond t 2 0) l)
-cell-known w l true at then h u =
-    let h1 : at + 1 < length l = omega arith in
-    let n : at + 1 + 1 ≡ at + 2 = omega arith in
-    ap (λ (p : Parsed ℕ). andThen (andThen p (λ x rest. refuseIf (eqb x 0 || leb (2 ^ w) x) 14 (next x rest))) then) (take-two l at h1)
-    ∙ ap (λ (b : Bool). andThen (refuseIf b 14 (next (pairFrom l at) (drop (at + 1 + 1) l))) then) u
-    ∙ ap (λ (k : ℕ). then (pairFrom l at) (drop k l)) n
-cell-known w l false at then h u =
-    let n : at ≡ at + 0 = omega arith in
-    ap (λ (k : ℕ). then 0 (drop k l)) n
+-- a marked cell that stands in the bytes, by its test; one that fits, or is not marked
+module _ {B : Type 0} (w : ℕ) (l : List ℕ) (at : ℕ) (then : ℕ → List ℕ → Parsed B) where
+  cell-read : at + 2 ≤ length l → (b : Bool) → unfitOf w true (pairFrom l at) ≡ b
+      → andThen (readCell w true (drop at l)) then ≡ andThen (refuseIf b 14 (next (pairFrom l at) (drop (at + 2) l))) then
+  cell-read h b u =
+      let n : at + 1 + 1 ≡ at + 2 = omega arith in
+      ap (λ (p : Parsed ℕ). andThen (andThen p (λ x rest. refuseIf (eqb x 0 || leb (2 ^ w) x) 14 (next x rest))) then)
+      (take-two l at (omega arith) ∙ ap (λ (k : ℕ). next (pairFrom l at) (drop k l)) n)
+      ∙ ap (λ (c : Bool). andThen (refuseIf c 14 (next (pairFrom l at) (drop (at + 2) l))) then) u
+
+  cell-known : (t : Bool) → at + 2 ≤ length l → unfitOf w t (pairFrom l at) ≡ false → andThen (readCell w t (drop at l)) then ≡ then (cellFrom l at t) (drop (at + cond t 2 0) l)
+  cell-known true h u = cell-read h false u
+  cell-known false h u = ap (λ (k : ℕ). then 0 (drop k l)) (let n : at ≡ at + 0 = omega arith in n)
+
+-- a bucket whose byte is there, by its test
+bucket-tested : (w : ℕ) (l : List ℕ) (at : ℕ) → at < length l → (b : Bool) → leb 16 (getD l at 0) ≡ b
+    → readBucket w (drop at l) ≡ refuseIf b 13 (allCells w (getD l at 0) (drop (at + 1) l))
+bucket-tested w l at h b e =
+    bucket-opened w (drop at l)
+    ∙ ap (λ (p : Parsed ℕ). andThen p (behindMarks w)) (take-byte l at h)
+    ∙ ap (λ (c : Bool). refuseIf c 13 (allCells w (getD l at 0) (drop (at + 1) l))) e
 
 -- where nine bytes are left, every test may be made, whatever is marked
 module _ (w : ℕ) (l : List ℕ) (at : ℕ) (room : at + 9 ≤ length l) where
@@ -212,13 +222,11 @@ module _ (w : ℕ) (l : List ℕ) (at : ℕ) (room : at + 9 ≤ length l) where
       let b0 = cond-le (bit0 m) 2 in
       let b1 = cond-le (bit1 m) 2 in
       let b2 = cond-le (bit2 m) 2 in
-      bucket-opened w (drop at l)
-      ∙ ap (λ (p : Parsed ℕ). andThen p (behindMarks w)) (take-byte l at (omega arith))
-      ∙ ap (λ (c : Bool). refuseIf c 13 (allCells w m (drop (at + 1) l))) low
-      ∙ cell-known w l (bit0 m) (at + 1) (behind0 w m) (omega arith) e0
-      ∙ cell-known w l (bit1 m) (second at m) (behind1 w m (cellFrom l (at + 1) (bit0 m))) (omega arith) e1
-      ∙ cell-known w l (bit2 m) (third at m) (behind2 w m (cellFrom l (at + 1) (bit0 m)) (cellFrom l (second at m) (bit1 m))) (omega arith) e2
-      ∙ cell-known w l (bit3 m) (fourth at m) (behind3 (cellFrom l (at + 1) (bit0 m)) (cellFrom l (second at m) (bit1 m)) (cellFrom l (third at m) (bit2 m))) (omega arith) e3
+      bucket-tested w l at (omega arith) false low
+      ∙ cell-known w l (at + 1) (behind0 w m) (bit0 m) (omega arith) e0
+      ∙ cell-known w l (second at m) (behind1 w m (cellFrom l (at + 1) (bit0 m))) (bit1 m) (omega arith) e1
+      ∙ cell-known w l (third at m) (behind2 w m (cellFrom l (at + 1) (bit0 m)) (cellFrom l (second at m) (bit1 m))) (bit2 m) (omega arith) e2
+      ∙ cell-known w l (fourth at m) (behind3 (cellFrom l (at + 1) (bit0 m)) (cellFrom l (second at m) (bit1 m)) (cellFrom l (third at m) (bit2 m))) (bit3 m) (omega arith) e3
       ∙ ap (λ (k : ℕ). next (cellsOf l at m) (drop k l)) (places-end at m)
 
   pub good-said : (r : Bool) → r ≡ not ((leb 16 m || (u0 || u1)) || (u2 || u3)) → GoodAt w l at r
@@ -235,87 +243,46 @@ stops-never : {p : Parsed (List ℕ)} {n : ℕ} → GivesCells p → p ≡ stop 
 stops-never h e = subst GivesCells e h
 
 -- a whole that passes, and has come to a cell
-pub record Come (whole : Parsed (List ℕ)) (w : ℕ) (t : Bool) (l : List ℕ) (at : ℕ) (then : ℕ → List ℕ → Parsed (List ℕ)) : Type 0 where
+record Come (whole : Parsed (List ℕ)) (w : ℕ) (t : Bool) (l : List ℕ) (at : ℕ) (then : ℕ → List ℕ → Parsed (List ℕ)) : Type 0 where
   pub is : whole ≡ andThen (readCell w t (drop at l)) then
   pub within : at ≤ length l
   pub passed : GivesCells whole
 
 module _ {whole : Parsed (List ℕ)} {w : ℕ} {t : Bool} {l : List ℕ} {at : ℕ} {then : ℕ → List ℕ → Parsed (List ℕ)} (k : Come whole w t l at then) where
-  -- the cell stands whole in the bytes
-  pub come-room : at + cond t 2 0 ≤ length l
-  come-room = go t (k .is)
+  -- the cell stands whole in the bytes, and they are its value
+  come-cell : (at + cond t 2 0 ≤ length l) × (whole ≡ then (cellFrom l at t) (drop (at + cond t 2 0) l))
+  come-cell = go t (k .is)
     where
-      go : (s : Bool) → whole ≡ andThen (readCell w s (drop at l)) then → at + cond s 2 0 ≤ length l
-      go false e = omega (arith, k .within)
-      go true e = decide (leb (at + 2) (length l)) refl
-        where
-          decide : (b : Bool) → leb (at + 2) (length l) ≡ b → at + 2 ≤ length l
-          decide true h = leb-true (at + 2) (length l) h
-          decide false h =
-              let short = no-two l at (omega (arith, leb-false (at + 2) (length l) h)) in
-              absurd (stops-never (k .passed) (e ∙ ap (λ (p : Parsed ℕ). andThen (andThen p (λ x rest. refuseIf (eqb x 0 || leb (2 ^ w) x) 14 (next x rest))) then) short))
+      fit : at + 2 ≤ length l → (b : Bool) → unfitOf w true (pairFrom l at) ≡ b → whole ≡ andThen (readCell w true (drop at l)) then → whole ≡ then (pairFrom l at) (drop (at + 2) l)
+      fit h true u e = absurd (stops-never (k .passed) (e ∙ cell-read w l at then h true u))
+      fit h false u e = e ∙ cell-read w l at then h false u
 
-  -- and its bytes are its value
-  pub come-on : {end : ℕ} → end ≡ at + cond t 2 0 → whole ≡ then (cellFrom l at t) (drop end l)
-  come-on {end} e = go t (k .is) come-room ∙ ap (λ (n : ℕ). then (cellFrom l at t) (drop n l)) (sym e)
-    where
-      go : (b : Bool) → whole ≡ andThen (readCell w b (drop at l)) then → at + cond b 2 0 ≤ length l → whole ≡ then (cellFrom l at b) (drop (at + cond b 2 0) l)
-      go false q h =
-          let z : at ≡ at + 0 = omega arith in
-          q ∙ ap (λ (n : ℕ). then 0 (drop n l)) z
-      go true q h = fit (unfitOf w true (pairFrom l at)) refl
-        where
-          opened : (b : Bool) → unfitOf w true (pairFrom l at) ≡ b → whole ≡ andThen (refuseIf b 14 (next (pairFrom l at) (drop (at + 1 + 1) l))) then
-          opened b u =
-              q
-              ∙ ap (λ (p : Parsed ℕ). andThen (andThen p (λ x rest. refuseIf (eqb x 0 || leb (2 ^ w) x) 14 (next x rest))) then) (take-two l at (omega arith))
-              ∙ ap (λ (c : Bool). andThen (refuseIf c 14 (next (pairFrom l at) (drop (at + 1 + 1) l))) then) u
+      go : (b : Bool) → whole ≡ andThen (readCell w b (drop at l)) then → (at + cond b 2 0 ≤ length l) × (whole ≡ then (cellFrom l at b) (drop (at + cond b 2 0) l))
+      go false e = (omega (arith, k .within), e ∙ ap (λ (n : ℕ). then 0 (drop n l)) (let z : at ≡ at + 0 = omega arith in z))
+      go true e = elim (decLe (at + 2) (length l)) [
+        | yes h ↦ (h, fit h (unfitOf w true (pairFrom l at)) refl e)
+        | no h ↦ absurd
+            (stops-never (k .passed)
+            (e ∙ ap (λ (p : Parsed ℕ). andThen (andThen p (λ x rest. refuseIf (eqb x 0 || leb (2 ^ w) x) 14 (next x rest))) then) (no-two l at (omega arith))))
+      ]
 
-          fit : (b : Bool) → unfitOf w true (pairFrom l at) ≡ b → whole ≡ then (pairFrom l at) (drop (at + 2) l)
-          fit true u = absurd (stops-never (k .passed) (opened true u))
-          fit false u =
-              let n : at + 1 + 1 ≡ at + 2 = omega arith in
-              opened false u ∙ ap (λ (x : ℕ). then (pairFrom l at) (drop x l)) n
-
-  -- and the next cell is come to
-  pub come-next : {u : Bool} {more : ℕ → List ℕ → Parsed (List ℕ)} {end : ℕ} → end ≡ at + cond t 2 0
-      → ((rest : List ℕ) → then (cellFrom l at t) rest ≡ andThen (readCell w u rest) more) → Come whole w u l end more
-  come-next {u} {more} {end} e f = record { is = come-on e ∙ f (drop end l); within = omega (arith, come-room, e); passed = k .passed }
+  come-next : (u : Bool) (more : ℕ → List ℕ → Parsed (List ℕ)) → ((rest : List ℕ) → then (cellFrom l at t) rest ≡ andThen (readCell w u rest) more) → Come whole w u l (at + cond t 2 0) more
+  come-next u more f = record { is = come-cell .1 ∙ f (drop (at + cond t 2 0) l); within = come-cell .0; passed = k .passed }
 
 -- the byte that marks the cells
 module _ (w : ℕ) (l : List ℕ) (at : ℕ) (h : GivesCells (readBucket w (drop at l))) where
   pub marks-in : at < length l
-  marks-in = decide (leb (length l) at) refl
+  marks-in = elim (decLe (length l) at) [
+    | yes e ↦ absurd (stops-never h (bucket-opened w (drop at l) ∙ ap (λ (p : Parsed ℕ). andThen p (behindMarks w)) (no-byte l at e)))
+    | no e ↦ omega arith
+  ]
+
+  come-first : Come (readBucket w (drop at l)) w (bit0 (getD l at 0)) l (at + 1) (behind0 w (getD l at 0))
+  come-first = record { is = low (leb 16 (getD l at 0)) refl; within = omega (arith, marks-in); passed = h }
     where
-      decide : (b : Bool) → leb (length l) at ≡ b → at < length l
-      decide true e = absurd (stops-never h (bucket-opened w (drop at l) ∙ ap (λ (p : Parsed ℕ). andThen p (behindMarks w)) (no-byte l at (leb-true (length l) at e))))
-      decide false e = leb-false (length l) at e
-
-  pub come-first : (m : ℕ) → m ≡ getD l at 0 → Come (readBucket w (drop at l)) w (bit0 m) l (at + 1) (behind0 w m)
-  come-first m e = record { is = low (leb 16 m) refl; within = omega (arith, marks-in); passed = h }
-    where
-      opened : (b : Bool) → leb 16 m ≡ b → readBucket w (drop at l) ≡ refuseIf b 13 (allCells w m (drop (at + 1) l))
-      opened b q =
-          bucket-opened w (drop at l)
-          ∙ ap (λ (p : Parsed ℕ). andThen p (behindMarks w)) (take-byte l at marks-in)
-          ∙ ap (λ (k : ℕ). behindMarks w k (drop (at + 1) l)) (sym e)
-          ∙ ap (λ (c : Bool). refuseIf c 13 (allCells w m (drop (at + 1) l))) q
-
-      low : (b : Bool) → leb 16 m ≡ b → readBucket w (drop at l) ≡ allCells w m (drop (at + 1) l)
-      low true q = absurd (stops-never h (opened true q))
-      low false q = opened false q
-
--- the places are near enough to read two bytes at each, where nine are left
-pub pair-room : (ahead : Bool) (n at p : ℕ) → at + cond ahead 9 0 ≤ n → p ≤ n → p ≤ at + 7 → p + cond ahead 2 0 ≤ n
-pair-room true n at p h k near = omega arith
-pair-room false n at p h k near = omega arith
-
-pub places-near : (at m : ℕ) → (second at m ≤ at + 3) × (third at m ≤ at + 5) × (fourth at m ≤ at + 7)
-places-near at m =
-    let b0 = cond-le (bit0 m) 2 in
-    let b1 = cond-le (bit1 m) 2 in
-    let b2 = cond-le (bit2 m) 2 in
-    (omega arith, omega arith, omega arith)
+      low : (b : Bool) → leb 16 (getD l at 0) ≡ b → readBucket w (drop at l) ≡ allCells w (getD l at 0) (drop (at + 1) l)
+      low true q = absurd (stops-never h (bucket-tested w l at marks-in true q))
+      low false q = bucket-tested w l at marks-in false q
 
 -- the whole bucket, and where its cells stand
 pub record Passed (w : ℕ) (l : List ℕ) (at : ℕ) : Type 0 where
@@ -328,17 +295,29 @@ pub record Passed (w : ℕ) (l : List ℕ) (at : ℕ) : Type 0 where
 pub bucket-passed : (w : ℕ) (l : List ℕ) (at : ℕ) → GivesCells (readBucket w (drop at l)) → Passed w l at
 bucket-passed w l at h =
     let m : ℕ = getD l at 0 in
-    let a = come-first w l at h m refl in
-    let b = come-next a {u = bit1 m} {more = behind1 w m (cellFrom l (at + 1) (bit0 m))} {end = second at m} refl (λ rest. refl) in
-    let c = come-next b {u = bit2 m} {more = behind2 w m (cellFrom l (at + 1) (bit0 m)) (cellFrom l (second at m) (bit1 m))} {end = third at m} refl (λ rest. refl) in
-    let d = come-next c {u = bit3 m} {more = behind3 (cellFrom l (at + 1) (bit0 m)) (cellFrom l (second at m) (bit1 m)) (cellFrom l (third at m) (bit2 m))} {end = fourth at m} refl (λ rest. refl) in
+    let x : ℕ = cellFrom l (at + 1) (bit0 m) in
+    let y : ℕ = cellFrom l (second at m) (bit1 m) in
+    let b = come-next (come-first w l at h) (bit1 m) (behind1 w m x) (λ rest. refl) in
+    let c = come-next b (bit2 m) (behind2 w m x y) (λ rest. refl) in
+    let d = come-next c (bit3 m) (behind3 x y (cellFrom l (third at m) (bit2 m))) (λ rest. refl) in
     record {
-      is = come-on d {end = fourth at m + cond (bit3 m) 2 0} refl ∙ ap (λ (k : ℕ). next (cellsOf l at m) (drop k l)) (places-end at m);
+      is = come-cell d .1 ∙ ap (λ (k : ℕ). next (cellsOf l at m) (drop k l)) (places-end at m);
       inside-second = b .within;
       inside-third = c .within;
       inside-fourth = d .within;
-      inside = omega (arith, come-room d);
+      inside = omega (arith, come-cell d .0);
     }
+
+-- two bytes are there at each place where nine are left, and none have to be where not
+pub passed-rooms : (ahead : Bool) {w : ℕ} {l : List ℕ} {at : ℕ} → at + cond ahead 9 0 ≤ length l → Passed w l at
+    → (second at (getD l at 0) + cond ahead 2 0 ≤ length l) × (third at (getD l at 0) + cond ahead 2 0 ≤ length l) × (fourth at (getD l at 0) + cond ahead 2 0 ≤ length l)
+passed-rooms true {w} {l} {at} h P =
+    let m = getD l at 0 in
+    let b0 = cond-le (bit0 m) 2 in
+    let b1 = cond-le (bit1 m) 2 in
+    let b2 = cond-le (bit2 m) 2 in
+    (omega arith, omega arith, omega arith)
+passed-rooms false h P = (omega (arith, P .inside-second), omega (arith, P .inside-third), omega (arith, P .inside-fourth))
 
 -- ── buckets ──
 -- a part of four cells put into the table: what stands up to its end

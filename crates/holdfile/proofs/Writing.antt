@@ -1,18 +1,19 @@
 -- The writer's steps: cells that may be left out, the sizes that the first pass adds up, and the buckets in a row.
 -- Assumes nothing.
 use mathlib.Core.Path.{_≡_, refl, sym, ap, ap₂, _∙_}
-use mathlib.Core.Bool.{Bool, true, false, cond, _||_}
+use mathlib.Core.Bool.{Bool, true, false, cond, _||_, or-assoc}
 use mathlib.Core.List.{List, [], _∷_, _++_}
-use Prim.Native.Nat.{ℕ, zero, suc, _+_, _*_, _/_, _%_, _^_, _≤_, _<_}
+use Prim.Native.Nat.{ℕ, zero, suc, _+_, _*_, _/_, _%_, _^_, _≤_, _<_, max}
 use native.Mathlib.Numerals.{add-one}
 use native.Mathlib.Omega.{arith}
 use mir.Val.{boolByte}
-use borrow.Author.Tests.{le-leb, leb-true, leb-false}
+use borrow.Author.Tests.{le-leb}
 use lib.Dec.{leb}
 use lib.ListN.{length, drop, getD, set, length-append, drop-of-length-le}
 use lib.Seq.{sets, sets-eq, drop-cons}
 use Rattle.lemmas.specs.Stores.{Put, PutBefore}
-use Rattle.lemmas.proofs.Stores.{sets-append, put-nothing, put-before, stored-over}
+use Rattle.lemmas.proofs.Numbers.{max-wide}
+use Rattle.lemmas.proofs.Stores.{drop-four, sets-append, put-nothing, put-before, stored-over}
 use Rattle.refusals.specs.Outcomes.{refused, given, outcome}
 use Rattle.index.specs.declared.Settings.{Settings}
 use Rattle.index.proofs.Laws.{laws}
@@ -21,7 +22,7 @@ use Rattle.file_form.specs.Bytes.{pair, where?}
 use Rattle.calls.specs.WrittenForms.{anyFrom}
 use Rattle.file_form.specs.Writer.{header, filled, cellBytes, bucketBytes, body, fileOf, writeFile}
 use Rattle.file_header.specs.Answers.{HeaderPut}
-use Rattle.holdfile.specs.Internal.{slack, largerOf, bucketBytesAt}
+use Rattle.holdfile.specs.Internal.{slack, bucketBytesAt}
 use Rattle.file_form.proofs.Laws.{header-laws}
 use Rattle.calls.proofs.Laws.{writer-laws}
 
@@ -104,18 +105,6 @@ module _ (ahead : Bool) (o : List ℕ) (at v : ℕ) where
           rw none (put-before (put-nothing o at))
 
 -- ── the loops ──
-pub drop-four : (c : List ℕ) (i : ℕ) → i + 4 ≤ length c → drop i c ≡ getD c i 0 ∷ getD c (i + 1) 0 ∷ getD c (i + 2) 0 ∷ getD c (i + 3) 0 ∷ drop (i + 4) c
-drop-four c i h =
-    let e1 : i + 1 ≡ suc i = omega arith in
-    let e2 : i + 2 ≡ suc (suc i) = omega arith in
-    let e3 : i + 3 ≡ suc (suc (suc i)) = omega arith in
-    let e4 : i + 4 ≡ suc (suc (suc (suc i))) = omega arith in
-    rw (e1, e2, e3, e4)
-    (drop-cons c i 0 (omega arith)
-    ∙ ap (λ (r : List ℕ). getD c i 0 ∷ r) (drop-cons c (suc i) 0 (omega arith)
-    ∙ ap (λ (r : List ℕ). getD c (suc i) 0 ∷ r) (drop-cons c (suc (suc i)) 0 (omega arith)
-    ∙ ap (λ (r : List ℕ). getD c (suc (suc i)) 0 ∷ r) (drop-cons c (suc (suc (suc i))) 0 (omega arith)))))
-
 pub body-step : (c : List ℕ) (i : ℕ) → i + 4 ≤ length c → body (drop i c) ≡ bucketBytesAt c i ++ body (drop (i + 4) c)
 unfolding body
 body-step c i h = ap body (drop-four c i h)
@@ -136,27 +125,6 @@ pub body-end : (c : List ℕ) (i : ℕ) → length c ≤ i → body (drop i c) �
 unfolding body
 body-end c i h = ap body (drop-of-length-le c h)
 
--- a larger of two is as wide as either
-or-left : (s t : Bool) → (t ≡ true → s ≡ true) → s ≡ (s || t)
-or-left true t h = refl
-or-left false true h = h refl
-or-left false false h = refl
-
-or-right : (s t : Bool) → (s ≡ true → t ≡ true) → t ≡ (s || t)
-or-right true t h = h refl
-or-right false t h = refl
-
-or-assoc : (a b c : Bool) → ((a || b) || c) ≡ (a || (b || c))
-or-assoc true b c = refl
-or-assoc false b c = refl
-
-larger-wide : (n a b : ℕ) → leb n (largerOf a b) ≡ (leb n a || leb n b)
-larger-wide n a b = go (leb a b) refl
-  where
-    go : (t : Bool) → leb a b ≡ t → leb n (cond t b a) ≡ (leb n a || leb n b)
-    go true e = or-right (leb n a) (leb n b) (λ k. le-leb n b (omega (arith, leb-true n a k, leb-true a b e)))
-    go false e = or-left (leb n a) (leb n b) (λ k. le-leb n a (omega (arith, leb-true n b k, leb-false a b e)))
-
 module _ (c : List ℕ) (i : ℕ) where
   pub sizes-step : i < length c → printSizes (drop i c) ≡ cond (filled (getD c i 0)) 2 0 + printSizes (drop (i + 1) c)
   unfolding printSizes
@@ -166,21 +134,12 @@ module _ (c : List ℕ) (i : ℕ) where
   unfolding printSizes
   sizes-end h = ap printSizes (drop-of-length-le c h)
 
-  module _ (n : ℕ) where
-    any-step : i < length c → anyFrom n (drop i c) ≡ (leb n (getD c i 0) || anyFrom n (drop (i + 1) c))
-    any-step h = rw (add-one, drop-cons c i 0) refl
+  -- the largest cell so far stands for those before
+  pub any-turn : (n top : ℕ) {more : ℕ} → i < length c → more ≡ max top (getD c i 0) → (leb n more || anyFrom n (drop (i + 1) c)) ≡ (leb n top || anyFrom n (drop i c))
+  any-turn n top h e = rw (e, add-one, drop-cons c i 0 h, max-wide n top (getD c i 0), or-assoc) refl
 
-    -- the largest cell so far stands for those before
-    pub any-turn : (top more : ℕ) → i < length c → more ≡ largerOf top (getD c i 0)
-        → (leb n more || anyFrom n (drop (i + 1) c)) ≡ (leb n top || anyFrom n (drop i c))
-    any-turn top more h e =
-        ap (λ (x : ℕ). leb n x || anyFrom n (drop (i + 1) c)) e
-        ∙ ap (λ (b : Bool). b || anyFrom n (drop (i + 1) c)) (larger-wide n top (getD c i 0))
-        ∙ or-assoc (leb n top) (leb n (getD c i 0)) (anyFrom n (drop (i + 1) c))
-        ∙ ap (λ (b : Bool). leb n top || b) (sym (any-step h))
-
-    pub any-end : length c ≤ i → anyFrom n (drop i c) ≡ false
-    any-end h = ap (anyFrom n) (drop-of-length-le c h)
+  pub any-end : (n : ℕ) → length c ≤ i → anyFrom n (drop i c) ≡ false
+  any-end n h = ap (anyFrom n) (drop-of-length-le c h)
 
 -- the header has been put to an output that has room for it
 pub header-put : {s : Settings} {o e : List ℕ} {n : ℕ} → HeaderPut s o e n → length (header s) ≤ length o → Put o e 0 (header s) n

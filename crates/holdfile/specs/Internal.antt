@@ -3,8 +3,7 @@
 use mathlib.Core.Path.{_≡_}
 use mathlib.Core.Bool.{Bool, true, false, cond}
 use mathlib.Core.List.{List, []}
-use Prim.Native.Nat.{ℕ, _+_, _*_, _^_, _≤_}
-use lib.Dec.{leb}
+use Prim.Native.Nat.{ℕ, _+_, _*_, _^_}
 use lib.ListN.{length, drop, getD}
 use Rattle.calls.specs.WrittenForms.{anyFrom}
 use Rattle.file_form.specs.Writer.{bucketBytes, body}
@@ -23,9 +22,6 @@ bucketBytesAt c i = bucketBytes (getD c i 0) (getD c (i + 1) 0) (getD c (i + 2) 
 -- what may be changed behind a cell or a bucket, where more is still to be stored there
 abbrev pub slack : Bool → ℕ
 slack ahead = cond ahead 2 0
-
-abbrev pub largerOf : ℕ → ℕ → ℕ
-largerOf a b = cond (leb a b) b a
 
 -- the first pass over the cells: the bytes of the buckets, where no cell is too wide
 abbrev pub Sized : ℕ → List ℕ → Size → Type 0

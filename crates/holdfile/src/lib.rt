@@ -2,7 +2,7 @@
 ghost use mathlib.Core.Path.{_≡_};
 ghost use mathlib.Core.Bool.{cond, _&&_, _||_};
 ghost use mathlib.Core.List.{[], _∷_};
-ghost use Prim.Native.Nat.{_+_, _*_, _%_, _^_, _<_, _≤_};
+ghost use Prim.Native.Nat.{_+_, _*_, _%_, _^_, _<_, _≤_, max};
 ghost use lib.Dec.{eqb, leb};
 ghost use lib.ListN.{length, drop, getD};
 ghost use lib.Seq.{sets};
@@ -14,7 +14,7 @@ ghost use Rattle.file_form.specs.Writer.{cellBytes, body, writeFile};
 ghost use Rattle.file_form.specs.Reader.{takeByte, takePair, readCell, readBucket, readBuckets, afterHeader, readFile};
 ghost use Rattle.file_header.specs.Answers.{readIs};
 ghost use Rattle.holdfile.specs.Answers.{writeIs};
-ghost use Rattle.holdfile.specs.Internal.{fieldIs, slack, largerOf, passIs, endOf, pairFrom, GivesCells, cellsRead, bucketSize, GoodAt, Sized, bucketBytesAt};
+ghost use Rattle.holdfile.specs.Internal.{fieldIs, slack, passIs, endOf, pairFrom, GivesCells, cellsRead, bucketSize, GoodAt, Sized, bucketBytesAt};
 use file_header::HeaderRead;
 use file_header::ReadAnswer;
 use index::Settings;
@@ -73,31 +73,48 @@ fn part_size(stands: bool, n: usize) -> usize
 
 // The larger of two cells.
 fn larger(a: u16, b: u16) -> u16
-    ensures { λ r. ⌜ r ≡ largerOf a b ⌝ }
+    ensures { λ r. ⌜ r ≡ max a b ⌝ }
 {
-    if a <= b { b } else { a }
+    if a < b { b } else { a }
+}
+
+// The end of a block of cells whose number fits 16 bits.
+fn block_end(from: usize, all: usize) -> usize
+    requires { ⌜ from < all ⌝ }
+    ensures { λ r. ⌜ (from < r) × (r ≤ all) × (r ≤ from + 32768) ⌝ }
+{
+    if all - from < 32768 {
+        all
+    } else {
+        from + 32768
+    }
 }
 
 // The first pass over the cells: are they below 2^w, and how many bytes do the buckets take? The largest is compared once, at the
-// end: a loop that may stop at each cell is far slower. Cells are counted in 32 bits, of which a register has four.
+// end: a loop that may stop at each cell is far slower. Cells are counted in 16 bits, of which a register has eight.
 fn body_size(table: &[u16], width: u32, buckets: usize) -> Size
     requires { ⌜ (width ≤ 16) × (length (now table) ≡ 4 * buckets) × (buckets ≤ 65536) ⌝ }
     ensures { λ r. ⌜ Sized width (now (table .entry)) r ⌝ }
 {
     let mut top = 0;
-    let mut filled = 0u32;
+    let mut filled = 0;
     let mut i = 0;
     while i < table.len() {
-        let v = table[i];
-        top = larger(top, v);
-        filled += (v != 0) as u32;
-        i += 1;
+        let end = block_end(i, table.len());
+        let mut few = 0u16;
+        while i < end {
+            let v = table[i];
+            top = larger(top, v);
+            few += (v != 0) as u16;
+            i += 1;
+        }
+        filled += few as usize;
     }
     let limit = 1u32 << width;
     if wide(top) >= limit {
         return Size::TooWide;
     }
-    Size::Bytes(buckets + 2 * (filled as usize))
+    Size::Bytes(buckets + 2 * filled)
 }
 
 // The place after the byte.

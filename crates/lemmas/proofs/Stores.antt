@@ -1,12 +1,29 @@
--- Numbers stored one after the other: parts in a row, and what is left of a whole.
+-- Numbers one after the other: four of them, parts stored in a row, and what is left of a whole.
 -- Assumes nothing.
 use mathlib.Core.Path.{_≡_, refl, sym, ap, ap₂, _∙_}
 use mathlib.Core.List.{List, [], _∷_, _++_, append-assoc}
 use Prim.Native.Nat.{ℕ, zero, suc, _+_, _≤_}
 use native.Mathlib.Omega.{arith}
-use lib.ListN.{length, set, length-append}
-use lib.Seq.{sets, length-sets}
+use lib.ListN.{length, getD, drop, set, length-append}
+use lib.Seq.{sets, length-sets, drop-cons}
 use Rattle.lemmas.specs.Stores.{Put, PutBefore}
+
+pub drop-four : (l : List ℕ) (i : ℕ) → i + 4 ≤ length l → drop i l ≡ getD l i 0 ∷ getD l (i + 1) 0 ∷ getD l (i + 2) 0 ∷ getD l (i + 3) 0 ∷ drop (i + 4) l
+drop-four l i h =
+    let e1 : i + 1 ≡ suc i = omega arith in
+    let e2 : i + 2 ≡ suc (suc i) = omega arith in
+    let e3 : i + 3 ≡ suc (suc (suc i)) = omega arith in
+    let e4 : i + 4 ≡ suc (suc (suc (suc i))) = omega arith in
+    rw (
+      e1,
+      e2,
+      e3,
+      e4,
+      drop-cons l i 0 (omega arith),
+      drop-cons l (suc i) 0 (omega arith),
+      drop-cons l (suc (suc i)) 0 (omega arith),
+      drop-cons l (suc (suc (suc i))) 0 (omega arith),
+    ) refl
 
 pub sets-append : (l : List ℕ) (i : ℕ) (a b : List ℕ) → sets l i (a ++ b) ≡ sets (sets l i a) (i + length a) b
 sets-append l i [] b =

@@ -1,17 +1,18 @@
 -- The table's buckets as the writer takes them: four cells, sorted, and whether a cell does not fit the width.
 -- Assumes nothing.
-use mathlib.Core.Path.{_≡_, refl, sym, _∙_}
+use mathlib.Core.Path.{_≡_, refl}
 use mathlib.Core.Bool.{false, _||_, or-false, or-assoc}
 use mathlib.Core.List.{List, [], _∷_}
 use Prim.Native.Nat.{ℕ, zero, suc, _+_, _^_, _≤_, _<_, min, max}
-use native.Mathlib.Decide.{decLe}
 use native.Mathlib.Numerals.{add-one}
 use native.Mathlib.Omega.{arith}
-use borrow.Author.Tests.{le-leb, lt-leb, leb-false}
+use borrow.Author.Tests.{leb-false}
 use lib.Dec.{leb}
 use lib.ListN.{length, getD, drop, drop-of-length-le}
 use lib.Seq.{drop-cons}
 use Rattle.lemmas.proofs.Bools.{or-false-left, or-false-right}
+use Rattle.lemmas.proofs.Numbers.{max-wide}
+use Rattle.lemmas.proofs.Stores.{drop-four}
 use Rattle.rows.specs.Rows.{Ascends}
 use Rattle.calls.specs.WrittenForms.{anyFrom}
 use Rattle.packed_form.specs.Writer.{sort4, sortBuckets, codeOf, streamOf}
@@ -23,23 +24,6 @@ any-at : (n : ℕ) (l : List ℕ) (i : ℕ) → anyFrom n l ≡ false → i < le
 any-at n [] i e h = absurd (omega arith)
 any-at n (v ∷ l) zero e h = leb-false n v (or-false-left (leb n v) (anyFrom n l) e)
 any-at n (v ∷ l) (suc i) e h = any-at n l i (or-false-right (leb n v) (anyFrom n l) e) (omega arith)
-
-drop-four : (l : List ℕ) (i : ℕ) → i + 4 ≤ length l → drop i l ≡ getD l i 0 ∷ getD l (i + 1) 0 ∷ getD l (i + 2) 0 ∷ getD l (i + 3) 0 ∷ drop (i + 4) l
-drop-four l i h =
-    let e1 : i + 1 ≡ suc i = omega arith in
-    let e2 : i + 2 ≡ suc (suc i) = omega arith in
-    let e3 : i + 3 ≡ suc (suc (suc i)) = omega arith in
-    let e4 : i + 4 ≡ suc (suc (suc (suc i))) = omega arith in
-    rw (
-      e1,
-      e2,
-      e3,
-      e4,
-      drop-cons l i 0 (omega arith),
-      drop-cons l (suc i) 0 (omega arith),
-      drop-cons l (suc (suc i)) 0 (omega arith),
-      drop-cons l (suc (suc (suc i))) 0 (omega arith),
-    ) refl
 
 pub sort-made : (a b c d : ℕ) {low high low2 high2 inner outer r0 r1 r2 r3 : ℕ}
     → low ≡ min a b → high ≡ max a b → low2 ≡ min c d → high2 ≡ max c d → inner ≡ max low low2 → outer ≡ min high high2
@@ -68,15 +52,6 @@ module _ {counts : List ℕ} {w : ℕ} {t : List ℕ} {i : ℕ} (A : BucketAsked
   }
 
 -- ── a cell that does not fit: the highest tells ──
-max-wide : (n a b : ℕ) → leb n (max a b) ≡ (leb n a || leb n b)
-max-wide n a b = elim (decLe n a) [
-  | yes h ↦ rw (le-leb n a h) (le-leb n (max a b) (omega arith))
-  | no h ↦ rw (lt-leb n a (omega arith)) (elim (decLe n b) [
-    | yes k ↦ le-leb n (max a b) (omega arith) ∙ sym (le-leb n b k)
-    | no k ↦ lt-leb n (max a b) (omega arith) ∙ sym (lt-leb n b (omega arith))
-  ])
-]
-
 module _ (n : ℕ) (l : List ℕ) (i : ℕ) where
   pub any-turn : (top : ℕ) {more : ℕ} → more ≡ max top (getD l i 0) → i < length l → (leb n more || anyFrom n (drop (i + 1) l)) ≡ (leb n top || anyFrom n (drop i l))
   any-turn top e h = rw (e, add-one, drop-cons l i 0 h, max-wide n top (getD l i 0), or-assoc) refl

@@ -1,4 +1,4 @@
-use Prim.Native.Nat.{ℕ, _+_, _<_}
+use Prim.Native.Nat.{ℕ, _+_, _≤_, _<_}
 use borrow.Author.Needs.{needs}
 use lib.ListN.{length, drop, getD}
 use mathlib.Core.Bool.{cond}
@@ -8,7 +8,7 @@ use native.Mathlib.Omega.{arith}
 use Rattle.file_form.specs.Bytes.{bit0, bit1, bit2, bit3}
 use Rattle.file_form.specs.Parsed.{next}
 use Rattle.holdfile.specs.Internal.{pairFrom}
-use Rattle.holdfile.proofs.Reading.{second, third, fourth, cellsOf, places-are, places-near, pair-room, four-same, Passed, bucket-passed, marks-in, stored}
+use Rattle.holdfile.proofs.Reading.{second, third, fourth, cellsOf, places-are, passed-rooms, four-same, Passed, bucket-passed, marks-in, stored}
 use Rattle.holdfile.proofs.store_bucket.Statement.{statement}
 use Rattle.holdfile.proofs.store_bucket.Tie as tie
 
@@ -48,31 +48,23 @@ add-third c = omega (arith, passed (c .before .before .before .before .before) .
 add-fourth : tie.Need-add-fourth
 add-fourth c = omega (arith, passed (start c) .inside-fourth, is c .2)
 
+rooms : (c : tie.Start)
+    → let a = c .args in
+    let n = length (a .bytes .now) in
+    (second (a .at) (marks c) + cond (a .ahead) 2 0 ≤ n) × (third (a .at) (marks c) + cond (a .ahead) 2 0 ≤ n) × (fourth (a .at) (marks c) + cond (a .ahead) 2 0 ≤ n)
+rooms c = passed-rooms (c .args .ahead) (c .pre .1) (passed c)
+
 pair-from-requires : tie.Need-pair-from-requires
-pair-from-requires c κs =
-    let s = start c in
-    pair-room (s .args .ahead) (length (s .args .bytes .now)) (s .args .at) (s .args .at + 1) (s .pre .1) (omega (arith, inside s)) (omega arith)
+pair-from-requires c κs = omega (arith, rooms (start c) .0)
 
 pair-from-requires-2 : tie.Need-pair-from-requires-2
-pair-from-requires-2 c κs =
-    let p = c .before .before in
-    let s = start p in
-    let at = s .args .at in
-    omega (arith, is p .0, pair-room (s .args .ahead) (length (s .args .bytes .now)) at (second at (marks s)) (s .pre .1) (passed s .inside-second) (omega (arith, places-near at (marks s) .0)))
+pair-from-requires-2 c κs = let p = c .before .before in omega (arith, is p .0, rooms (start p) .0)
 
 pair-from-requires-3 : tie.Need-pair-from-requires-3
-pair-from-requires-3 c κs =
-    let p = c .before .before .before .before in
-    let s = start p in
-    let at = s .args .at in
-    omega (arith, is p .1, pair-room (s .args .ahead) (length (s .args .bytes .now)) at (third at (marks s)) (s .pre .1) (passed s .inside-third) (omega (arith, places-near at (marks s) .1)))
+pair-from-requires-3 c κs = let p = c .before .before .before .before in omega (arith, is p .1, rooms (start p) .1)
 
 pair-from-requires-4 : tie.Need-pair-from-requires-4
-pair-from-requires-4 c κs =
-    let p = c .before .before .before .before .before .before in
-    let s = start p in
-    let at = s .args .at in
-    omega (arith, is p .2, pair-room (s .args .ahead) (length (s .args .bytes .now)) at (fourth at (marks s)) (s .pre .1) (passed s .inside-fourth) (omega (arith, places-near at (marks s) .2)))
+pair-from-requires-4 c κs = let p = c .before .before .before .before .before .before in omega (arith, is p .2, rooms (start p) .2)
 
 -- all cells read
 abbrev placed : tie.After-bucket-size → tie.After-part-size3

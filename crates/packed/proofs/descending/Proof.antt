@@ -1,4 +1,3 @@
-use lib.Dec.{ltb}
 use mathlib.Core.Bool.{or-false, or-assoc}
 use mathlib.Core.Path.{refl}
 use Rattle.packed.proofs.descending.Statement.{statement}

@@ -2,7 +2,7 @@ use Prim.Native.Nat.{ℕ, _*_, _-_, _/_, _≤_, _<_, _^_}
 use borrow.Author.Needs.{needs}
 use lib.ListN.{length}
 use mathlib.Core.Bool.{true, false}
-use mathlib.Core.Path.{_≡_, _∙_}
+use mathlib.Core.Path.{_≡_}
 use native.Mathlib.Omega.{arith}
 use Rattle.packed.proofs.Bytes.{ahead-few, tail-room, width-of}
 use Rattle.packed.proofs.Writing.{run-fits, last-room, run-last, run-all}

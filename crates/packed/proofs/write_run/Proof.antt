@@ -1,5 +1,4 @@
 use Prim.Native.Nat.{ℕ, _-_, _≤_}
-use borrow.Author.Needs.{needs}
 use lib.ListN.{length}
 use mathlib.Core.Path.{_≡_, refl, _∙_, subst}
 use native.Mathlib.Omega.{arith}
