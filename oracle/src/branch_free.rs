@@ -6,16 +6,16 @@ use crate::holdfile::{self, check_buckets, check_table, take_head, Head};
 use crate::index::{Answer, Settings};
 
 /// Cells in a bucket.
-const CELLS: usize = 4;
+pub(crate) const CELLS: usize = 4;
 /// Bytes of the longest bucket.
-const LONGEST: usize = 9;
+pub(crate) const LONGEST: usize = 9;
 /// Buckets in the largest table.
 const MOST: usize = 65_536;
 
 /// How many bytes a bucket has, by the cells that it marks.
-static LENGTHS: [u8; 16] = [1, 3, 3, 5, 3, 5, 5, 7, 3, 5, 5, 7, 5, 7, 7, 9];
+pub(crate) static LENGTHS: [u8; 16] = [1, 3, 3, 5, 3, 5, 5, 7, 3, 5, 5, 7, 5, 7, 7, 9];
 /// How many of them are ahead of the fingerprints of its last two cells.
-static AHEAD: [u8; 16] = [1, 3, 3, 5, 1, 3, 3, 5, 1, 3, 3, 5, 1, 3, 3, 5];
+pub(crate) static AHEAD: [u8; 16] = [1, 3, 3, 5, 1, 3, 3, 5, 1, 3, 3, 5, 1, 3, 3, 5];
 
 /// Four 16-bit numbers side by side, of which each is 1.
 const ONES: u64 = 0x0001_0001_0001_0001;
@@ -93,7 +93,7 @@ unsafe fn put(table: &[u16], out: &mut [u8]) -> (usize, usize) {
 }
 
 /// Writes buckets, and no byte beyond.
-fn put_last(table: &[u16], out: &mut [u8]) {
+pub(crate) fn put_last(table: &[u16], out: &mut [u8]) {
     let mut at = 0;
     for cells in table.chunks_exact(CELLS) {
         let map = at;
@@ -135,7 +135,7 @@ const ROOM: usize = 16;
 const BYTES: usize = 1_024;
 
 /// The fingerprints among the four words of 16 bits that follow a bucket's first byte.
-static FINGERPRINTS: [u64; 16] = {
+pub(crate) static FINGERPRINTS: [u64; 16] = {
     let mut all = [0; 16];
     let mut map = 1;
     while map < 16 {
@@ -147,7 +147,7 @@ static FINGERPRINTS: [u64; 16] = {
 
 /// What brings fingerprints to the marked cells: those that stay and those that go up by two
 /// cells, and then those that stay and those that go up by one.
-static MOVES: [[u64; 4]; 16] = {
+pub(crate) static MOVES: [[u64; 4]; 16] = {
     let mut all = [[0; 4]; 16];
     let mut map = 0;
     while map < 16 {
@@ -268,7 +268,7 @@ fn get(bytes: &[u8], maps: &[u8], table: &mut [u16]) {
 }
 
 /// Fills the cells of the last buckets, which are good.
-fn get_last(mut bytes: &[u8], table: &mut [u16]) {
+pub(crate) fn get_last(mut bytes: &[u8], table: &mut [u16]) {
     for cells in table.chunks_exact_mut(CELLS) {
         let map = bytes[0];
         bytes = &bytes[1..];

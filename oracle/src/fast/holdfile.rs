@@ -1,6 +1,7 @@
 //! The hold file, several buckets at a time.
 
 use super::survey;
+use crate::branch_free::{get_last, put_last, AHEAD, CELLS, FINGERPRINTS, LENGTHS, LONGEST, MOVES};
 use crate::holdfile::{self, check_buckets, check_table, take_head, Head};
 use crate::index::{Answer, Settings};
 use std::arch::x86_64::{
@@ -9,16 +10,6 @@ use std::arch::x86_64::{
     _mm_set_epi64x, _mm_setzero_si128, _mm_slli_epi32, _mm_srai_epi32, _mm_srli_epi32,
     _mm_subs_epu16, _mm_unpackhi_epi64,
 };
-
-/// Cells in a bucket.
-const CELLS: usize = 4;
-/// Bytes of the longest bucket.
-const LONGEST: usize = 9;
-
-/// How many bytes a bucket has, by the cells that it marks.
-static LENGTHS: [u8; 16] = [1, 3, 3, 5, 3, 5, 5, 7, 3, 5, 5, 7, 5, 7, 7, 9];
-/// How many of them are ahead of the fingerprints of its last two cells.
-static AHEAD: [u8; 16] = [1, 3, 3, 5, 1, 3, 3, 5, 1, 3, 3, 5, 1, 3, 3, 5];
 
 /// The filled cells of eight buckets, a bit for each.
 #[inline(always)]
@@ -63,23 +54,6 @@ unsafe fn put(table: &[u16], out: &mut [u8]) -> usize {
     to.offset_from(out) as usize
 }
 
-/// Writes buckets, and no byte beyond.
-fn put_last(table: &[u16], out: &mut [u8]) {
-    let mut at = 0;
-    for cells in table.chunks_exact(CELLS) {
-        let map = at;
-        out[map] = 0;
-        at += 1;
-        for (i, &cell) in cells.iter().enumerate() {
-            if cell != 0 {
-                out[map] |= 1 << i;
-                out[at..at + 2].copy_from_slice(&cell.to_le_bytes());
-                at += 2;
-            }
-        }
-    }
-}
-
 /// Writes the file, and answers how many bytes it has. No branch is decided by a cell but in the
 /// last few buckets.
 pub fn write(s: &Settings, table: &[u16], out: &mut [u8]) -> Answer<usize> {
@@ -108,38 +82,6 @@ pub fn write(s: &Settings, table: &[u16], out: &mut [u8]) -> Answer<usize> {
 const PARTS: usize = 4;
 /// How many steps a walk takes before a part starts.
 const STEPS: usize = 128;
-
-/// The fingerprints among the four words of 16 bits that follow a bucket's first byte.
-static FINGERPRINTS: [u64; 16] = {
-    let mut all = [0; 16];
-    let mut map = 1;
-    while map < 16 {
-        all[map] = u64::MAX >> (8 * (LONGEST - LENGTHS[map] as usize));
-        map += 1;
-    }
-    all
-};
-
-/// What brings fingerprints to the marked cells: those that stay and those that go up by two
-/// cells, and then those that stay and those that go up by one.
-static MOVES: [[u64; 4]; 16] = {
-    let mut all = [[0; 4]; 16];
-    let mut map = 0;
-    while map < 16 {
-        let (mut cell, mut from) = (0, 0);
-        while cell < CELLS {
-            if map >> cell & 1 == 1 {
-                let by = cell - from;
-                all[map][by / 2] |= 0xffff << (16 * (cell - by % 2));
-                all[map][2 + by % 2] |= 0xffff << (16 * cell);
-                from += 1;
-            }
-            cell += 1;
-        }
-        map += 1;
-    }
-    all
-};
 
 /// Whether anything was wrong with the buckets so far.
 struct Faults {
@@ -280,21 +222,6 @@ unsafe fn get_parts(bytes: &[u8], parts: &Parts, table: &mut [u16]) {
         for _ in together..parts.counts[i] {
             at[i] += get(from.add(at[i]), cells[i]);
             cells[i] = cells[i].add(CELLS);
-        }
-    }
-}
-
-/// Fills the cells of the last buckets, which are good.
-fn get_last(mut bytes: &[u8], table: &mut [u16]) {
-    for cells in table.chunks_exact_mut(CELLS) {
-        let map = bytes[0];
-        bytes = &bytes[1..];
-        for (i, cell) in cells.iter_mut().enumerate() {
-            *cell = 0;
-            if map >> i & 1 == 1 {
-                *cell = u16::from_le_bytes([bytes[0], bytes[1]]);
-                bytes = &bytes[2..];
-            }
         }
     }
 }
