@@ -1,4 +1,4 @@
--- The starred examples of document 01, as a list of what the definitions have to yield. `proofs/Examples.antt` has the one theorem over it, which alone computes through the
+-- The starred examples of document 01, and a file with a salt, as a list of what the definitions have to yield. `proofs/Examples.antt` has the one theorem over it, which alone computes through the
 -- definitions of every layer.
 -- Assumes nothing.
 use mathlib.Core.Path.{_≡_}
@@ -6,7 +6,7 @@ use mathlib.Core.List.{List, [], _∷_, _++_}
 use Prim.Native.Nat.{ℕ, zero, suc, _*_}
 use lib.ListN.{length}
 use Rattle.refusals.specs.Outcomes.{Answer, refused, given, outcome}
-use Rattle.index.specs.Settings.{defaultSettings}
+use Rattle.index.specs.Settings.{defaultSettings, withSalt}
 use Rattle.index.specs.Candidates.{othersBy}
 use Rattle.index.specs.declared.Settings.{Settings}
 use Rattle.calls.specs.Calls.{Said, accepted, fresh}
@@ -42,7 +42,7 @@ AllYield (e ∷ es) = Yields e × AllYield es
 
 -- rule, bucket count and mask; the width has no part in these, and is the default's
 abbrev pub with : ℕ → ℕ → ℕ → Settings
-with r m k = record { rule = r; width = defaultSettings .width; buckets = m; mask = k }
+with r m k = record { rule = r; width = defaultSettings .width; buckets = m; mask = k; salt = defaultSettings .salt }
 
 abbrev pub times : {A : Type 0} → ℕ → A → List A
 times zero a = []
@@ -50,7 +50,11 @@ times (suc n) a = a ∷ times n a
 
 -- rule 0, w = 4, M = 1
 abbrev pub small : Settings
-small = record { rule = 0; width = 4; buckets = 1; mask = 0 }
+small = record { rule = 0; width = 4; buckets = 1; mask = 0; salt = 0 }
+
+-- the same with a salt
+abbrev pub salted : Settings
+salted = withSalt 0x0123456789ABCDEF small
 
 -- so many holds of one tag, with as much scratch as M buckets ask
 abbrev pub holds : ℕ → ℕ → List Call
@@ -67,6 +71,8 @@ examples =
     ∷ says (with 0 1 0) (holds 5 1) (times 4 (given (accepted 0)) ++ (refused 9 ∷ []))
     ∷ says (with 1 2 0) (holds 9 2) (times 8 (given (accepted 0)) ++ (refused 9 ∷ []))
     ∷ files small (0 ∷ 9 ∷ 0 ∷ 3 ∷ []) (0x06 ∷ 0x04 ∷ 0x00 ∷ 0x00 ∷ 0x0A ∷ 0x09 ∷ 0x00 ∷ 0x03 ∷ 0x00 ∷ [])
+    ∷ files salted (0 ∷ 9 ∷ 0 ∷ 3 ∷ [])
+    (0x16 ∷ 0x04 ∷ 0x00 ∷ 0x00 ∷ 0xEF ∷ 0xCD ∷ 0xAB ∷ 0x89 ∷ 0x67 ∷ 0x45 ∷ 0x23 ∷ 0x01 ∷ 0x0A ∷ 0x09 ∷ 0x00 ∷ 0x03 ∷ 0x00 ∷ [])
     ∷ row 0 0 0 15 15
     ∷ row 0 0 1 1 16
     ∷ row 0 1 1 1 136

@@ -43,15 +43,15 @@ unfolding readHeader
 no-byte = refl
 
 module _ (map : ℕ) (rest : List ℕ) where
-  upper : 16 ≤ map → readHeader (map ∷ rest) ≡ stop 12
+  upper : 32 ≤ map → readHeader (map ∷ rest) ≡ stop 12
   unfolding readHeader afterMap mapChecks
-  upper h = ap (λ (o : Option ℕ). checked o (readFields map rest)) (met (start (mapChecks map)) (le-leb 16 map h))
+  upper h = ap (λ (o : Option ℕ). checked o (readFields map rest)) (met (start (mapChecks map)) (le-leb 32 map h))
 
-  passes : map < 16 → firstMet (mapChecks map) ≡ none
+  passes : map < 32 → firstMet (mapChecks map) ≡ none
   unfolding mapChecks
-  passes h = none-left (passed (start (mapChecks map)) (lt-leb 16 map h))
+  passes h = none-left (passed (start (mapChecks map)) (lt-leb 32 map h))
 
-  lower : map < 16 → (n : ℕ) → readFields map rest ≡ stop n → readHeader (map ∷ rest) ≡ stop n
+  lower : map < 32 → (n : ℕ) → readFields map rest ≡ stop n → readHeader (map ∷ rest) ≡ stop n
   unfolding readHeader afterMap
   lower h n e = ap (λ (o : Option ℕ). checked o (readFields map rest)) (passes h) ∙ e
 
@@ -78,7 +78,7 @@ short (n ∷ ns) m (d ∷ ds) l e h = go (bit 0 m) refl (λ k g. short ns (m / 2
           (more (drop n l) (omega (arith, length-drop n l, g, ap (λ (t : Bool). cond t n 0) q)))
     ]
 
-module _ (map : ℕ) (rest : List ℕ) (h : map < 16) where
+module _ (map : ℕ) (rest : List ℕ) (h : map < 32) where
   cut : length rest < fieldsLength sizes map → readHeader (map ∷ rest) ≡ stop 11
   unfolding readFields
   cut l = lower map rest h 11 (stopped (takeFields sizes map defaults rest) (fitting map) 11 (short sizes map defaults rest refl l))

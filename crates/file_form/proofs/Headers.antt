@@ -12,7 +12,7 @@ use lib.ListN.{length, getD}
 use Rattle.lemmas.specs.Bytes.{AllBytes}
 use Rattle.refusals.specs.Checks.{check, firstMet}
 use Rattle.refusals.proofs.Cursor.{start, passed, none-left, not-met}
-use Rattle.index.specs.Settings.{defaultSettings, settingsRefusal}
+use Rattle.index.specs.Settings.{defaultSettings, Representable, settingsRefusal}
 use Rattle.index.specs.declared.Settings.{Settings}
 use Rattle.index.specs.Laws.{Laws}
 use Rattle.index.proofs.Laws.{laws}
@@ -33,8 +33,8 @@ module _ (s : Settings) (good-s : settingsRefusal s ≡ none) where
   L = laws s good-s
 
   -- the values of good settings fit their bytes
-  fitted : Fit sizes (valuesOf s)
-  fitted = (omega (arith, L .rule-high), (omega (arith, L .width-high), (omega (arith, L .few-buckets), (omega (arith, L .mask-below, L .few-buckets), tt))))
+  fitted : Representable s → Fit sizes (valuesOf s)
+  fitted fits = (omega (arith, L .rule-high), (omega (arith, L .width-high), (omega (arith, L .few-buckets), (omega (arith, L .mask-below, L .few-buckets), (omega (arith, fits .salt), tt)))))
 
   -- what is left out has its default
   left-out : Absent (standing s) defaults (valuesOf s)
@@ -42,7 +42,7 @@ module _ (s : Settings) (good-s : settingsRefusal s ≡ none) where
     absent (s .rule) (defaultSettings .rule),
     (
       absent (s .width) (defaultSettings .width),
-      (λ h. ap (λ (x : ℕ). x - 1) (absent (s .buckets) (defaultSettings .buckets) h), (λ h. L .no-mask (eqb-false (s .rule) 2 h), tt)),
+      (λ h. ap (λ (x : ℕ). x - 1) (absent (s .buckets) (defaultSettings .buckets) h), (λ h. L .no-mask (eqb-false (s .rule) 2 h), (absent (s .salt) (defaultSettings .salt), tt))),
     ),
   )
 
@@ -52,7 +52,7 @@ module _ (s : Settings) (good-s : settingsRefusal s ≡ none) where
       rw e refl
 
 pub defaults-fit : Fit sizes defaults
-defaults-fit = (omega arith, (omega arith, (omega arith, (omega arith, tt))))
+defaults-fit = (omega arith, (omega arith, (omega arith, (omega arith, (omega arith, tt)))))
 
 -- the settings' values are those that they were made of
 values-back : (vs : List ℕ) → Fit sizes vs → valuesOf (settingsFrom vs) ≡ vs
@@ -66,16 +66,16 @@ needless true x d e = sym (Bool·not-not (eqb x d))
 needless false x d e = sym (ap not (eq-eqb x d (e refl)))
 
 differing : (m : ℕ) (vs : List ℕ) → Defaulted m defaults (spelled (length sizes) (λ i. getD vs i 0)) → Differing m (standing (settingsFrom vs)) (misfits m (settingsFrom vs))
-differing m vs d = (needless _ _ _ (d .0), (needless _ _ _ (d .1 .0), (needless _ _ _ (λ h. ap (λ (x : ℕ). x + 1) (d .1 .1 .0 h)), (refl, tt))))
+differing m vs d = (needless _ _ _ (d .0), (needless _ _ _ (d .1 .0), (needless _ _ _ (λ h. ap (λ (x : ℕ). x + 1) (d .1 .1 .0 h)), (refl, (needless _ _ _ (d .1 .1 .1 .1 .0), tt)))))
 
 -- ── the map ──
 map-low : (m : ℕ) → firstMet (mapChecks m) ≡ none → m < 2 ^ length (standing defaultSettings)
 unfolding mapChecks
-map-low m e = leb-false 16 m (not-met (check 12 (leb 16 m)) [] e .0)
+map-low m e = leb-false 32 m (not-met (check 12 (leb 32 m)) [] e .0)
 
 map-passes : (m : ℕ) → m < 2 ^ length (standing defaultSettings) → firstMet (mapChecks m) ≡ none
 unfolding mapChecks
-map-passes m h = none-left (passed (start (check 12 (leb 16 m) ∷ [])) (lt-leb 16 m h))
+map-passes m h = none-left (passed (start (check 12 (leb 32 m) ∷ [])) (lt-leb 32 m h))
 
 -- the other causes of 12 are one: the map is not the one that the writer makes of the settings that were read
 misfit-map : (m : ℕ) (vs : List ℕ) → firstMet (mapChecks m) ≡ none → Fit sizes vs → Defaulted m defaults vs → misfit m (settingsFrom vs) ≡ not (eqb m (mapOf (settingsFrom vs)))
@@ -91,7 +91,7 @@ unfolding fitting
 fitting-map m vs rest e h d = ap (λ (t : Bool). refuseIf t 12 (next (settingsFrom vs) rest)) (misfit-map m vs e h d)
 
 -- ── written, then read ──
-module _ (s : Settings) (good-s : settingsRefusal s ≡ none) (rest : List ℕ) where
+module _ (s : Settings) (fits : Representable s) (good-s : settingsRefusal s ≡ none) (rest : List ℕ) where
   passes : firstMet (mapChecks (mapOf s)) ≡ none
   passes = map-passes (mapOf s) (from-low (standing s))
 
@@ -105,8 +105,8 @@ module _ (s : Settings) (good-s : settingsRefusal s ≡ none) (rest : List ℕ) 
   unfolding readHeader header afterMap readFields
   header-read =
       ap (λ (o : Option ℕ). checked o (readFields (mapOf s) (fieldBytes sizes (mapOf s) (valuesOf s) ++ rest))) passes
-      ∙ onward _ (fitting (mapOf s)) (valuesOf s) rest (fields-read sizes (mapOf s) defaults (valuesOf s) rest (fitted s good-s) defaulted)
-      ∙ fitting-map (mapOf s) (valuesOf s) rest passes (fitted s good-s) defaulted
+      ∙ onward _ (fitting (mapOf s)) (valuesOf s) rest (fields-read sizes (mapOf s) defaults (valuesOf s) rest (fitted s good-s fits) defaulted)
+      ∙ fitting-map (mapOf s) (valuesOf s) rest passes (fitted s good-s fits) defaulted
       ∙ ap (λ (x : Settings). refuseIf (not (eqb (mapOf s) (mapOf x))) 12 (next x rest)) (restored s good-s)
       ∙ settled
 
@@ -116,7 +116,15 @@ header-is : (s : Settings) (m : ℕ) (vs : List ℕ) → m ≡ mapOf s → value
 unfolding header
 header-is s m vs e h = ap₂ (λ (x : ℕ) (y : List ℕ). x ∷ fieldBytes sizes x y) e (sym h)
 
-pub header-back : (l : List ℕ) (s : Settings) (rest : List ℕ) → AllBytes l → readHeader l ≡ next s rest → Back l (header s) rest
+-- values that fit their bytes make settings that fit their types
+fit-types : (vs : List ℕ) → Fit sizes (spelled (length sizes) (λ i. getD vs i 0)) → Representable (settingsFrom vs)
+fit-types vs (rule, (width, (less, (mask, (salt, _))))) = record { rule = omega arith; width = omega arith; buckets = omega arith; mask = omega arith; salt = omega arith }
+
+pub record HeaderBack (l : List ℕ) (s : Settings) (rest : List ℕ) : Type 0 where
+  pub back : Back l (header s) rest
+  pub types : Representable s
+
+pub header-back : (l : List ℕ) (s : Settings) (rest : List ℕ) → AllBytes l → readHeader l ≡ next s rest → HeaderBack l s rest
 unfolding readHeader afterMap readFields
 header-back l s rest all e =
     let a = split (takeByte l) afterMap s rest e in
@@ -131,4 +139,5 @@ header-back l s rest all e =
     let q = same-next (n .1) in
     let same : (m ∷ []) ++ fieldBytes sizes m vs ≡ header t = header-is t m vs (eqb-true m (mapOf t) (not-false (eqb m (mapOf t)) (n .0))) (values-back vs (f .fit)) in
     let done : Back l (header t) (b .rest) = subst (λ (x : List ℕ). Back l x (b .rest)) same (back-then (m ∷ []) (fieldBytes sizes m vs) k (f .back)) in
-    subst (λ (x : Settings). Back l (header x) rest) (q .0) (subst (Back l (header t)) (q .1) done)
+    let fits : Representable t = fit-types vs (subst (Fit sizes) (sym (spelled-same (length sizes) vs (fit-length sizes vs (f .fit)))) (f .fit)) in
+    subst (λ (x : Settings). HeaderBack l x rest) (q .0) (record { back = subst (Back l (header t)) (q .1) done; types = fits })

@@ -7,4 +7,5 @@ pub mod Fields
 pub mod Headers
 pub mod Buckets
 pub mod RoundTrip
+pub mod Unsalted
 pub mod Laws

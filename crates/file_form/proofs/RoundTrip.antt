@@ -12,7 +12,7 @@ use Rattle.refusals.specs.Checks.{firstMet}
 use Rattle.refusals.specs.Outcomes.{Answer, refused, given, Done, done, Outcome, outcome, keeping}
 use Rattle.refusals.proofs.Cursor.{goes-on, by-check, by-none}
 use Rattle.refusals.proofs.Laws.{refusal-laws}
-use Rattle.index.specs.Settings.{settingsRefusal}
+use Rattle.index.specs.Settings.{Representable, settingsRefusal}
 use Rattle.index.specs.declared.Settings.{Settings}
 use Rattle.calls.specs.Calls.{tableChecks, Sound}
 use Rattle.calls.specs.WrittenForms.{anyFrom}
@@ -34,20 +34,20 @@ pub refused-read-keeps : RefusedReadKeeps
 refused-read-keeps = record { keeps = keeps }
 
 -- ── written, then read ──
-back : (s : Settings) (c t : List ℕ) → settingsRefusal s ≡ none → length c ≡ 4 * s .buckets → length t ≡ 4 * s .buckets → anyFrom (2 ^ s .width) c ≡ false
+back : (s : Settings) (c t : List ℕ) → Representable s → settingsRefusal s ≡ none → length c ≡ 4 * s .buckets → length t ≡ 4 * s .buckets → anyFrom (2 ^ s .width) c ≡ false
     → readFile (fileOf s c) t ≡ outcome (given s) c
 unfolding readFile readAll fileOf afterHeader afterBuckets
-back s c t e lc lt small =
+back s c t z e lc lt small =
     ap (λ (p : Parsed (Done Settings (List ℕ))). keeping t (answerOf p))
-    (onward (readHeader (header s ++ body c)) (afterHeader t) s (body c) (header-read s e (body c))
+    (onward (readHeader (header s ++ body c)) (afterHeader t) s (body c) (header-read s z e (body c))
     ∙ ap (λ (o : Option ℕ). checked o (andThen (readBuckets (s .width) (s .buckets) (body c)) (afterBuckets s))) (table-check-laws s t .passes (record { settings = e; size = lt }))
     ∙ onward (readBuckets (s .width) (s .buckets) (body c)) (afterBuckets s) c [] (buckets-read (s .width) (s .buckets) c lc small))
 
-again : (s : Settings) (c out l t : List ℕ) (n : ℕ) → writeFile s c out ≡ outcome (given n) l → length t ≡ 4 * s .buckets → readFile (take n l) t ≡ outcome (given s) c
+again : (s : Settings) (c out l t : List ℕ) (n : ℕ) → Representable s → writeFile s c out ≡ outcome (given n) l → length t ≡ 4 * s .buckets → readFile (take n l) t ≡ outcome (given s) c
 unfolding writeFile
-again s c out l t n e h =
+again s c out l t n z e h =
     let w = writer-laws s c (fileOf s c) out .accepted n l e in
-    ap (λ (b : List ℕ). readFile b t) (w .first) ∙ back s c t (w .sound .settings) (w .sound .size) h (w .fits)
+    ap (λ (b : List ℕ). readFile b t) (w .first) ∙ back s c t z (w .sound .settings) (w .sound .size) h (w .fits)
 
 pub written-is-read : WrittenIsRead
 written-is-read = record { back = back; again = again }
@@ -91,6 +91,7 @@ parts bytes t c s e =
 -- ── read, then written ──
 -- what an accepted file consists of
 record Accepted (bytes c : List ℕ) (s : Settings) : Type 0 where
+  pub types : Representable s
   pub sound : Sound s c
   pub small : anyFrom (2 ^ s .width) c ≡ false
   pub same : fileOf s c ≡ bytes
@@ -100,8 +101,8 @@ unfolding fileOf
 accepted bytes t c s all e =
     let p = parts bytes t c s e in
     let k = header-back bytes s (p .rest) all (p .first) in
-    let m = buckets-back (s .width) (s .buckets) (p .rest) c [] (k .left) (p .buckets) in
-    record { sound = record { settings = p .sound .settings; size = m .long }; small = m .small; same = ap (λ (x : List ℕ). header s ++ x) (sym (append-nil (body c)) ∙ m .same) ∙ k .same }
+    let m = buckets-back (s .width) (s .buckets) (p .rest) c [] (k .back .left) (p .buckets) in
+    record { types = k .types; sound = record { settings = p .sound .settings; size = m .long }; small = m .small; same = ap (λ (x : List ℕ). header s ++ x) (sym (append-nil (body c)) ∙ m .same) ∙ k .back .same }
 
 -- the writer refuses nothing of what was accepted
 makes : (bytes t c out : List ℕ) (s : Settings) → AllBytes bytes → readFile bytes t ≡ outcome (given s) c → length bytes ≤ length out
@@ -112,7 +113,7 @@ makes bytes t c out s all e h =
     rw (a .same) (sym (writer-laws s c bytes out .writes (a .sound) (a .small) h))
 
 pub read-is-written : ReadIsWritten
-read-is-written = record { only = λ bytes t c s all e. accepted bytes t c s all e .same; makes = makes }
+read-is-written = record { representable = λ bytes t c s all e. accepted bytes t c s all e .types; only = λ bytes t c s all e. accepted bytes t c s all e .same; makes = makes }
 
 -- ── what the header alone tells ──
 -- settings that were named have passed

@@ -28,11 +28,11 @@ pub record AnswerOrder : Type 0 where
   -- no byte at all
   pub no-byte : (c : List ℕ) → readFile [] c .answer ≡ refused 11
   -- an upper bit of the map, whatever follows
-  pub map-bits : (map : ℕ) (rest c : List ℕ) → 16 ≤ map → readFile (map ∷ rest) c .answer ≡ refused 12
+  pub map-bits : (map : ℕ) (rest c : List ℕ) → 32 ≤ map → readFile (map ∷ rest) c .answer ≡ refused 12
   -- bytes that end before the fields do, whatever these say
-  pub fields : (map : ℕ) (rest c : List ℕ) → map < 16 → length rest < fieldsLength sizes map → readFile (map ∷ rest) c .answer ≡ refused 11
+  pub fields : (map : ℕ) (rest c : List ℕ) → map < 32 → length rest < fieldsLength sizes map → readFile (map ∷ rest) c .answer ≡ refused 11
   -- the other causes of 12, whatever the settings are, and whatever follows
-  pub misfits : (map : ℕ) (rest c values more : List ℕ) → map < 16 → takeFields sizes map defaults rest ≡ next values more → anyOf (misfits map (settingsFrom values)) ≡ true
+  pub misfits : (map : ℕ) (rest c values more : List ℕ) → map < 32 → takeFields sizes map defaults rest ≡ next values more → anyOf (misfits map (settingsFrom values)) ≡ true
       → readFile (map ∷ rest) c .answer ≡ refused 12
   -- the settings of a sound header, whatever the table and the buckets are
   pub settings : (bytes c rest : List ℕ) (s : Settings) (n : ℕ) → readHeader bytes ≡ next s rest → settingsRefusal s ≡ some n → readFile bytes c .answer ≡ refused n

@@ -7,6 +7,7 @@ pub mod Header
 pub mod Writer
 pub mod Reader
 pub mod RoundTrip
+pub mod Unsalted
 pub mod AnswerOrder
 pub mod RefusedWrite
 pub mod Laws

@@ -7,7 +7,7 @@ use mathlib.Core.List.{List, _++_}
 use Prim.Native.Nat.{ℕ, _*_, _^_, _≤_}
 use lib.ListN.{length, take, drop}
 use Rattle.refusals.specs.Outcomes.{refused, given, outcome}
-use Rattle.index.specs.Settings.{settingsRefusal}
+use Rattle.index.specs.Settings.{Representable, settingsRefusal}
 use Rattle.index.specs.declared.Settings.{Settings}
 use Rattle.lemmas.specs.Bytes.{AllBytes}
 use Rattle.calls.specs.WrittenForms.{anyFrom}
@@ -15,16 +15,19 @@ use Rattle.file_form.specs.Writer.{fileOf, writeFile}
 use Rattle.file_form.specs.Reader.{readFile, headerAnswer}
 
 -- what the writer makes of good settings and a table whose cells fit the width, whatever made that table, the reader accepts into any
--- table of the right length, and gives the same settings and cells back
+-- table of the right length, and gives the same settings and cells back. Each setting fits its type, as any does that the code is handed:
+-- of a salt of more than 64 bits eight bytes would not tell all
 pub record WrittenIsRead : Type 0 where
-  pub back : (s : Settings) (c t : List ℕ) → settingsRefusal s ≡ none → length c ≡ 4 * s .buckets → length t ≡ 4 * s .buckets → anyFrom (2 ^ s .width) c ≡ false
+  pub back : (s : Settings) (c t : List ℕ) → Representable s → settingsRefusal s ≡ none → length c ≡ 4 * s .buckets → length t ≡ 4 * s .buckets → anyFrom (2 ^ s .width) c ≡ false
       → readFile (fileOf s c) t ≡ outcome (given s) c
   -- and so over the writer itself: if it answers n, the reader given the first n bytes of its output gives settings and cells back
-  pub again : (s : Settings) (c out l t : List ℕ) (n : ℕ) → writeFile s c out ≡ outcome (given n) l → length t ≡ 4 * s .buckets
+  pub again : (s : Settings) (c out l t : List ℕ) (n : ℕ) → Representable s → writeFile s c out ≡ outcome (given n) l → length t ≡ 4 * s .buckets
       → readFile (take n l) t ≡ outcome (given s) c
 
 -- whatever bytes the reader accepts are those that the writer makes of the settings and cells that it gave
 pub record ReadIsWritten : Type 0 where
+  -- settings that were read fit their types, so that what the writer makes of them is read back
+  pub representable : (bytes t c : List ℕ) (s : Settings) → AllBytes bytes → readFile bytes t ≡ outcome (given s) c → Representable s
   pub only : (bytes t c : List ℕ) (s : Settings) → AllBytes bytes → readFile bytes t ≡ outcome (given s) c → fileOf s c ≡ bytes
   -- and the writer does make them: nothing refuses it where the output has room
   pub makes : (bytes t c out : List ℕ) (s : Settings) → AllBytes bytes → readFile bytes t ≡ outcome (given s) c → length bytes ≤ length out

@@ -40,13 +40,13 @@ enum Number {
 // ── the fields ──
 
 // How many there are.
-const FIELDS: usize = 4;
+const FIELDS: usize = 5;
 
 // The bytes that each takes where it is there.
 fn field_sizes() -> [usize; FIELDS]
     ensures { λ r. ⌜ r ≡ sizes ⌝ }
 {
-    [1, 1, 2, 2]
+    [1, 1, 2, 2, 8]
 }
 
 // One less, where there is one.
@@ -67,7 +67,7 @@ fn values_of(s: Settings) -> [u64; FIELDS]
     let width = s.width as u64;
     let less = one_less(s.buckets);
     let mask = s.mask as u64;
-    [rule, width, less, mask]
+    [rule, width, less, mask, s.salt]
 }
 
 // The settings that these numbers stand for.
@@ -84,6 +84,7 @@ fn settings_from(values: [u64; FIELDS]) -> Settings
         width,
         buckets,
         mask,
+        salt: values[4],
     }
 }
 
@@ -100,17 +101,20 @@ fn map_of(s: Settings) -> u8
     let rule = s.rule;
     let width = s.width;
     let buckets = s.buckets;
+    let salt = s.salt;
     one(rule != Settings::RULE)
         + 2
             * (one(width != Settings::WIDTH)
-                + 2 * (one(buckets != Settings::BUCKETS) + 2 * one(rule == 2)))
+                + 2
+                    * (one(buckets != Settings::BUCKETS)
+                        + 2 * (one(rule == 2) + 2 * one(salt != Settings::SALT))))
 }
 
 // The map's own tests, 0 where it passes.
 fn map_refusal(map: u64) -> u32
     ensures { λ r. ⌜ r ≡ numberOf (firstMet (mapChecks map)) ⌝ }
 {
-    if map >= 16 {
+    if map >= 32 {
         return 12;
     }
     0

@@ -3,7 +3,7 @@
 // buffers are there, and that one which is written overlaps no other.
 ghost use mathlib.Core.Path.{_≡_};
 ghost use mathlib.Core.Option.{some};
-ghost use Prim.Native.Nat.{ℕ, _<_, _^_};
+ghost use Prim.Native.Nat.{ℕ, _+_, _*_, _<_, _^_};
 ghost use lib.IntN.{pos};
 ghost use lib.ListN.{length};
 ghost use Rattle.refusals.specs.Checks.{firstMet};
@@ -27,8 +27,16 @@ use table::HoldAnswer;
 use table::LookupAnswer;
 use table::ReleaseAnswer;
 
-// Settings as they are lent: rule, width, bucket count and mask, as C's struct has them in memory.
-type Lent = [u32; 4];
+// Settings as they are lent: rule, width, bucket count, mask and the two halves of the salt, low half first, as C's struct has them in
+// memory.
+type Lent = [u32; 6];
+
+// The number whose halves these are.
+fn joined(low: u32, high: u32) -> u64
+    ensures { λ r. ⌜ r ≡ low + 2 ^ 32 * high ⌝ }
+{
+    (low as u64) + 4294967296 * (high as u64)
+}
 
 // An answer.
 fn given(n: u32) -> i64
@@ -68,6 +76,7 @@ fn lent_settings(settings: &Lent) -> Settings
         width: settings[1],
         buckets: settings[2],
         mask: settings[3],
+        salt: joined(settings[4], settings[5]),
     }
 }
 
@@ -75,7 +84,9 @@ fn lent_settings(settings: &Lent) -> Settings
 fn hand_out(s: Settings, settings: &mut Lent) -> i64
     ensures { λ r. ⌜ (r ≡ pos 0) × (now (settings .exit) ≡ numbersOf s) ⌝ }
 {
-    let all = [s.rule, s.width, s.buckets, s.mask];
+    let low = (s.salt % 4294967296) as u32;
+    let high = (s.salt / 4294967296) as u32;
+    let all = [s.rule, s.width, s.buckets, s.mask, low, high];
     *settings = all;
     0
 }

@@ -13,7 +13,7 @@ use lib.Seq.{drop-cons}
 use lib.Pow.{pow-pos, pow-mono, shl-exact}
 use Rattle.lemmas.proofs.Numbers.{mod-times}
 use Rattle.index.specs.Settings.{modulus}
-use Rattle.index.specs.Hash.{fnvStart, fnvPrime, fnvStep, fnvFrom, fnv1a, notZero, fingerprintOf, homeOf, fingerprint, home}
+use Rattle.index.specs.Hash.{fnvStart, fnvPrime, fnvStep, fnvFrom, fnv1a, tagHash, notZero, fingerprintOf, homeOf, fingerprint, home}
 use Rattle.index.specs.Candidates.{offset}
 use Rattle.index.specs.declared.Settings.{Settings}
 use Rattle.index.proofs.Good.{Good, modulus-xor, modulus-ring}
@@ -99,11 +99,11 @@ module _ {s : Settings} (G : Good s) (h : ℕ) where
       go (suc r) m = refl
 
 -- ── the entry and the offset ──
-pub print-of : (s : Settings) (t : List ℕ) {h p : ℕ} → h ≡ fnv1a t → p ≡ fingerprintOf s h → p ≡ fingerprint s t
+pub print-of : (s : Settings) (t : List ℕ) {h p : ℕ} → h ≡ tagHash (s .salt) t → p ≡ fingerprintOf s h → p ≡ fingerprint s t
 unfolding fingerprint
 print-of s t e q = q ∙ ap (fingerprintOf s) e
 
-pub home-of : (s : Settings) (t : List ℕ) {h b : ℕ} → h ≡ fnv1a t → b ≡ h / 2 ^ 32 % modulus s → b ≡ home s t
+pub home-of : (s : Settings) (t : List ℕ) {h b : ℕ} → h ≡ tagHash (s .salt) t → b ≡ h / 2 ^ 32 % modulus s → b ≡ home s t
 unfolding home homeOf
 home-of s t e q = q ∙ ap (λ (x : ℕ). x / 2 ^ 32 % modulus s) e
 

@@ -17,7 +17,7 @@ use Rattle.lemmas.proofs.Count.{hit-cases, among-cons, among-nil}
 use Rattle.lemmas.proofs.Members.{alike-refl, members-alike, into-members, from-members, members-ascend}
 use Rattle.lemmas.proofs.Bits.{mask-parts}
 use Rattle.index.specs.Settings.{byRule, settingsRefusal, half, modulus}
-use Rattle.index.specs.Hash.{fnv1a, notZero, fingerprintOf, homeOf, fingerprint, home}
+use Rattle.index.specs.Hash.{fnv1a, tagHash, notZero, fingerprintOf, homeOf, fingerprint, home}
 use Rattle.index.specs.Candidates.{offset, across, coMask, xorSteps, othersBy, others, candidates, candidateSet, classAt, classOf}
 use Rattle.index.specs.Laws.{Laws}
 use Rattle.index.specs.declared.Settings.{Settings}
@@ -190,9 +190,9 @@ module _ (s : Settings) (G : Good s) where
     same-set = λ p b x hb h. members-alike (s .buckets) (candidates s p x) (candidates s p b) (alike p b x hb h);
     members = λ p b x hb. (from-members (s .buckets) (candidates s p b) x, λ h. into-members (s .buckets) (candidates s p b) x (below p b x hb h) h);
     ascends = λ p b. members-ascend (s .buckets) (candidates s p b);
-    print-filled = λ tag. filled (fnv1a tag);
-    print-fits = λ tag. fits (fnv1a tag);
-    home-below = λ tag. lt-of-lt-of-le (mod-lt (fnv1a tag / 2 ^ 32) (modulus-below s G .0)) (modulus-below s G .1);
+    print-filled = λ tag. filled (tagHash (s .salt) tag);
+    print-fits = λ tag. fits (tagHash (s .salt) tag);
+    home-below = λ tag. lt-of-lt-of-le (mod-lt (tagHash (s .salt) tag / 2 ^ 32) (modulus-below s G .0)) (modulus-below s G .1);
     class-print = λ p b. refl;
     class-set = λ p b. refl;
     class-tag = λ tag. refl;

@@ -7,3 +7,4 @@ pub mod Refusals
 pub mod Checks
 pub mod Answers
 pub mod Computes
+pub mod Unsalted

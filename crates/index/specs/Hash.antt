@@ -42,11 +42,15 @@ fingerprintOf s h = notZero (h % 2 ^ s .width)
 unfoldable pub homeOf : Settings → ℕ → ℕ
 homeOf s h = h / 2 ^ 32 % modulus s
 
+-- the hash of a tag: the salt changes where it starts, so that tags that share an entry in one season do not in the next
+unfoldable pub tagHash : ℕ → List ℕ → ℕ
+tagHash salt tag = fnvFrom (bitXor fnvStart salt) tag
+
 unfoldable pub fingerprint : Settings → List ℕ → ℕ
-fingerprint s tag = fingerprintOf s (fnv1a tag)
+fingerprint s tag = fingerprintOf s (tagHash (s .salt) tag)
 
 unfoldable pub home : Settings → List ℕ → ℕ
-home s tag = homeOf s (fnv1a tag)
+home s tag = homeOf s (tagHash (s .salt) tag)
 
 -- the row of the place "tag": a tag is 1 to 64 bytes
 unfoldable pub tagChecks : List ℕ → List Check

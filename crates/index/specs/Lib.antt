@@ -3,4 +3,5 @@ pub mod Settings
 pub mod Hash
 pub mod Candidates
 pub mod Answers
+pub mod Unsalted
 pub mod Laws

@@ -1,9 +1,9 @@
--- The settings: rule, width w, bucket count M, mask m. Their checks are 1 to 4.
+-- The settings: rule, width w, bucket count M, mask m, salt. Their checks are 1 to 4; no salt is refused.
 -- Assumes nothing.
 use mathlib.Core.Bool.{Bool, false, not, _||_}
 use mathlib.Core.Option.{Option}
 use mathlib.Core.List.{List, [], _∷_}
-use Prim.Native.Nat.{ℕ, zero, suc, _/_, _%_, _^_}
+use Prim.Native.Nat.{ℕ, zero, suc, _/_, _%_, _^_, _<_}
 use lib.Dec.{eqb, leb, ltb}
 use Rattle.refusals.specs.Checks.{Check, check, firstMet}
 use Rattle.index.specs.declared.Settings.{Settings}
@@ -14,9 +14,21 @@ byRule zero plain ring masked = plain
 byRule (suc zero) plain ring masked = ring
 byRule (suc (suc n)) plain ring masked = masked
 
--- the default settings: rule 0, width 12, 4,096 buckets, mask 0
+-- the default settings: rule 0, width 12, 4,096 buckets, mask 0, salt 0
 abbrev pub defaultSettings : Settings
-defaultSettings = record { rule = 0; width = 12; buckets = 4096; mask = 0 }
+defaultSettings = record { rule = 0; width = 12; buckets = 4096; mask = 0; salt = 0 }
+
+-- the same settings with another salt
+abbrev pub withSalt : ℕ → Settings → Settings
+withSalt k s = record { rule = s .rule; width = s .width; buckets = s .buckets; mask = s .mask; salt = k }
+
+-- each setting fits the type that the code has for it. Here a setting is any number, and no check bounds the salt
+pub record Representable (s : Settings) : Type 0 where
+  pub rule : s .rule < 2 ^ 32
+  pub width : s .width < 2 ^ 32
+  pub buckets : s .buckets < 2 ^ 32
+  pub mask : s .mask < 2 ^ 32
+  pub salt : s .salt < 2 ^ 64
 
 -- m is 2 to the k for some k below n
 abbrev pub powerBelow : ℕ → ℕ → Bool

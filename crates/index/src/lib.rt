@@ -3,10 +3,11 @@
 ghost use mathlib.Core.Path.{_≡_};
 ghost use mathlib.Core.Bool.{not};
 ghost use Prim.Native.Nat.{_+_, _*_, _-_, _%_, _^_, _<_, _≤_};
+ghost use lib.Bits.{bitXor};
 ghost use mathlib.Core.Option.{none};
 ghost use Rattle.refusals.specs.Checks.{numberOf};
-ghost use Rattle.index.specs.Settings.{byRule, defaultSettings, settingsRefusal, modulus, powerOfTwo, odd};
-ghost use Rattle.index.specs.Hash.{fnvStep, fnvPrime, fingerprintOf, fnvFrom as hashFrom, fnv1a as hashOf};
+ghost use Rattle.index.specs.Settings.{byRule, defaultSettings, Representable, settingsRefusal, modulus, powerOfTwo, odd};
+ghost use Rattle.index.specs.Hash.{fnvStart, fnvStep, fnvPrime, fingerprintOf, fnvFrom as hashFrom, fnv1a as hashOf, tagHash as hashOfTag};
 ghost use Rattle.index.specs.Candidates.{offset as offsetOf, across as acrossOf};
 ghost use Rattle.index.specs.Answers.{checkedIs, checkedSettings, tagEntryIs, entryOf, offsetIs, offsetAnswer, Lists, candidatesAnswer};
 
@@ -16,6 +17,7 @@ pub struct Settings {
     pub width: u32,
     pub buckets: u32,
     pub mask: u32,
+    pub salt: u64,
 }
 
 // The checking constructor's answer.
@@ -78,6 +80,8 @@ impl Settings {
 
     pub const MASK: u32 = 0;
 
+    pub const SALT: u64 = 0;
+
     pub fn defaults() -> Self
         ensures { λ r. ⌜ r ≡ defaultSettings ⌝ }
     {
@@ -86,6 +90,7 @@ impl Settings {
             width: Self::WIDTH,
             buckets: Self::BUCKETS,
             mask: Self::MASK,
+            salt: Self::SALT,
         }
     }
 
@@ -122,14 +127,16 @@ impl Settings {
         0
     }
 
-    pub fn new(rule: u32, width: u32, buckets: u32, mask: u32) -> Checked
-        ensures { λ r. ⌜ checkedIs r ≡ checkedSettings (record { rule = rule; width = width; buckets = buckets; mask = mask }) ⌝ }
+    pub fn new(rule: u32, width: u32, buckets: u32, mask: u32, salt: u64) -> Checked
+        ensures { λ r. ⌜ checkedIs r ≡ checkedSettings (record { rule = rule; width = width; buckets = buckets; mask = mask; salt = salt }) ⌝ }
+        ensures { λ r. ⌜ Representable (record { rule = rule; width = width; buckets = buckets; mask = mask; salt = salt }) ⌝ }
     {
         let s = Settings {
             rule,
             width,
             buckets,
             mask,
+            salt,
         };
         let n = s.refusal();
         if n == 0 {
@@ -180,6 +187,20 @@ pub fn fnv1a(bytes: &[u8]) -> u64
     fnv_from(FNV_START, bytes)
 }
 
+// Where the hash of a tag starts: the salt of a season changes it.
+fn start_of(salt: u64) -> u64
+    ensures { λ r. ⌜ r ≡ bitXor fnvStart salt ⌝ }
+{
+    FNV_START ^ salt
+}
+
+// The hash of a tag.
+fn tag_hash(salt: u64, tag: &[u8]) -> u64
+    ensures { λ r. ⌜ r ≡ hashOfTag salt (now (tag .entry)) ⌝ }
+{
+    fnv_from(start_of(salt), tag)
+}
+
 // A hash reduced to a bucket: a remainder under the ring rule, low bits where M is a power of two.
 fn reduce(s: Settings, h: u64) -> u32
     requires { ⌜ settingsRefusal s ≡ none ⌝ }
@@ -218,7 +239,7 @@ pub fn entry_of(s: Settings, tag: &[u8]) -> TagEntry
     if tag.len() > 64 {
         return TagEntry::Refused(7);
     }
-    let h = fnv1a(tag);
+    let h = tag_hash(s.salt, tag);
     TagEntry::At(fingerprint_of(s, h), reduce(s, h >> 32))
 }
 

@@ -31,6 +31,7 @@ pub extern "C" fn test_view_cell(
         width,
         buckets,
         mask,
+        salt: Settings::SALT,
     };
     let part = bucket_view::view(s, table, bucket);
     let k = i as usize;

@@ -12,11 +12,11 @@ use Rattle.file_header.proofs.map_refusal.Tie as tie
 
 returns : tie.Need-returns
 unfolding mapChecks
-returns c = sym (ap (λ (t : Bool). numberOf (cond {A = Option ℕ} t (some 12) none)) (le-leb 16 (c .before .args .map) (omega (arith, c .if1 .taken))))
+returns c = sym (ap (λ (t : Bool). numberOf (cond {A = Option ℕ} t (some 12) none)) (le-leb 32 (c .before .args .map) (omega (arith, c .if1 .taken))))
 
 returns-2 : tie.Need-returns-2
 unfolding mapChecks
-returns-2 c = sym (ap (λ (t : Bool). numberOf (cond {A = Option ℕ} t (some 12) none)) (lt-leb 16 (c .before .args .map) (omega (arith, c .if1 .left))))
+returns-2 c = sym (ap (λ (t : Bool). numberOf (cond {A = Option ℕ} t (some 12) none)) (lt-leb 32 (c .before .args .map) (omega (arith, c .if1 .left))))
 
 pub map-refusal-spec : {M : Type 1} → statement M
 map-refusal-spec = tie.close (tie.spec returns returns-2)

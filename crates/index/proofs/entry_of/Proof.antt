@@ -30,7 +30,7 @@ returns-4 c =
     let l = h .before in
     let e = l .before .before in
     entry-given (checked (e .before)) _ (e .if1 .left) (pos-of-ne-zero (l .before .if2 .left)) (l .if3 .left)
-    (print-of _ _ (h .fnv1a .ensures) (c .before .fingerprint-of .ensures)) (home-of _ _ (h .fnv1a .ensures) (c .reduce .ensures))
+    (print-of _ _ (h .tag-hash .ensures) (c .before .fingerprint-of .ensures)) (home-of _ _ (h .tag-hash .ensures) (c .reduce .ensures))
 
 pub entry-of-spec : {M : Type 1} → statement M
 entry-of-spec =
