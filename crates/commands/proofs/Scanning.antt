@@ -1,25 +1,16 @@
 -- One turn of each loop over a line's bytes, and how the loop ends.
 -- Assumes nothing.
 use mathlib.Core.Path.{_≡_, refl, sym, ap, _∙_}
-use mathlib.Core.Bool.{Bool, true, false, cond, Bool·beq, _&&_, and-false}
-use mathlib.Core.Option.{Option, none, some}
+use mathlib.Core.Bool.{Bool, true, false, Bool·beq, _&&_, and-false}
 use mathlib.Core.List.{List, [], _∷_, _++_}
-use Prim.Native.Nat.{ℕ, suc, _+_, _*_, _-_, _^_, _≤_, _<_}
+use Prim.Native.Nat.{ℕ, suc, _+_, _-_, _≤_, _<_}
 use native.Mathlib.Omega.{arith}
-use native.Mathlib.Numerals.{add-one}
-use borrow.Author.Tests.{eq-eqb, ne-eqb, le-leb, lt-leb, lt-ltb, le-ltb}
-use lib.Dec.{eqb, ltb}
-use lib.ListN.{length, take, drop, getD, drop-of-length-le, length-drop}
-use lib.Seq.{drop-cons, take-suc, take-all}
+use borrow.Author.Tests.{eq-eqb, ne-eqb}
+use lib.Dec.{eqb}
+use lib.ListN.{length, take, drop, getD, drop-of-length-le}
+use lib.Seq.{take-suc}
+use Rattle.digits.proofs.Texts.{head}
 use Rattle.commands.specs.Words.{blank, front, unlessBlank, trimEnd, same}
-use Rattle.commands.specs.Numbers.{digit, valueFrom}
-
--- ── the list from place i on ──
-pub from : (l : List ℕ) (i : ℕ) → take (length l - i) (drop i l) ≡ drop i l
-from l i = take-all (length l - i) (drop i l) (omega (arith, length-drop i l))
-
-head : (l : List ℕ) (i : ℕ) → i < length l → drop i l ≡ getD l i 0 ∷ drop (i + 1) l
-head l i g = rw (add-one, drop-cons l i 0)
 
 -- ── bytes in front that are blanks, or none ──
 module _ (t : Bool) (l : List ℕ) (i : ℕ) where
@@ -92,30 +83,3 @@ module _ (x y : List ℕ) (i : ℕ) (g : i < length x) (h : i < length y) where
 pub same-end : (x y : List ℕ) (i : ℕ) → length x ≤ i → length y ≤ i → true ≡ same (drop i x) (drop i y)
 unfolding same
 same-end x y i g h = rw (drop-of-length-le x g, drop-of-length-le y h)
-
--- ── digits ──
-module _ (l : List ℕ) (i n : ℕ) (g : i < length l) where
-  abbrev value-next : Option ℕ
-  value-next = cond (digit (getD l i 0) && ltb (10 * n + (getD l i 0 - 48)) (2 ^ 32)) (valueFrom (10 * n + (getD l i 0 - 48)) (drop (i + 1) l)) none
-
-  value-step : valueFrom n (drop i l) ≡ value-next
-  unfolding valueFrom
-  value-step = ap (valueFrom n) (head l i g)
-
-  pub value-low : getD l i 0 < 48 → none ≡ valueFrom n (drop i l)
-  value-low e = sym (value-step ∙ rw (lt-leb 48 (getD l i 0) e))
-
-  module _ (low : 48 ≤ getD l i 0) where
-    pub value-high : 57 < getD l i 0 → none ≡ valueFrom n (drop i l)
-    value-high e = sym (value-step ∙ rw (le-leb 48 (getD l i 0) low, lt-leb (getD l i 0) 57 e))
-
-    module _ (high : getD l i 0 ≤ 57) where
-      pub value-large : 2 ^ 32 ≤ 10 * n + (getD l i 0 - 48) → none ≡ valueFrom n (drop i l)
-      value-large e = sym (value-step ∙ rw (le-leb 48 (getD l i 0) low, le-leb (getD l i 0) 57 high, le-ltb (10 * n + (getD l i 0 - 48)) (2 ^ 32) e))
-
-      pub value-turn : 10 * n + (getD l i 0 - 48) < 2 ^ 32 → valueFrom (10 * n + (getD l i 0 - 48)) (drop (i + 1) l) ≡ valueFrom n (drop i l)
-      value-turn e = sym (value-step ∙ rw (le-leb 48 (getD l i 0) low, le-leb (getD l i 0) 57 high, lt-ltb (10 * n + (getD l i 0 - 48)) (2 ^ 32) e))
-
-pub value-end : (l : List ℕ) (i n : ℕ) → length l ≤ i → some n ≡ valueFrom n (drop i l)
-unfolding valueFrom
-value-end l i n g = rw (drop-of-length-le l g)

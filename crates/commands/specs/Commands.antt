@@ -3,15 +3,24 @@
 use mathlib.Core.Bool.{cond}
 use mathlib.Core.List.{List, [], _∷_}
 use mathlib.Core.Option.{Option, none, some}
-use Prim.Native.Nat.{ℕ}
+use Prim.Native.Nat.{ℕ, _-_, _^_}
 use Prim.Native.String.{String}
 use lib.Dec.{eqb}
 use lib.ListN.{getD}
+use Rattle.digits.specs.Numbers.{decimalOf, numberOf}
 use Rattle.commands.specs.Words.{letters, ifEmpty, trim, word, afterWord, same}
-use Rattle.commands.specs.Numbers.{valueOf}
 use Rattle.commands.specs.declared.Asks.{Asks}
 use Rattle.commands.specs.declared.Command.{Command}
 use Rattle.commands.specs.declared.Expected.{Expected}
+
+-- ── the numbers that commands take, each a word ──
+-- below 2 to the 32, in decimal digits
+abbrev pub firstNumber : List ℕ → Option ℕ
+firstNumber l = decimalOf (2 ^ 32 - 1) (word l)
+
+-- a salt: below 2 to the 64, in decimal digits or in hexadecimal ones after 0x; 0 where it is left out
+abbrev pub firstSalt : List ℕ → Option ℕ
+firstSalt l = ifEmpty l (some 0) (numberOf (2 ^ 64 - 1) (word l))
 
 -- ── what stands after the name: where it is not as it should be, the answer says what was expected ──
 -- a tag or the name of a file: all that follows, blanks within it too
@@ -32,26 +41,30 @@ viewCommand none = Command.NotNumber Expected.Bucket
 viewCommand (some b) = Command.View b
 
 unfoldable pub viewLine : List ℕ → Command
-viewLine rest = lastWord (viewCommand (valueOf (word rest))) Expected.Bucket rest
+viewLine rest = lastWord (viewCommand (firstNumber rest)) Expected.Bucket rest
 
--- four numbers; the first that is none is told
-abbrev pub settingsCommand : Option ℕ → Option ℕ → Option ℕ → Option ℕ → Command
-settingsCommand (some r) (some w) (some m) (some k) = Command.Settings r w m k
-settingsCommand (some r) (some w) (some m) none = Command.NotNumber Expected.Mask
-settingsCommand (some r) (some w) none k = Command.NotNumber Expected.Buckets
-settingsCommand (some r) none m k = Command.NotNumber Expected.Width
-settingsCommand none w m k = Command.NotNumber Expected.Rule
+-- four numbers and a salt; the first that is none is told
+abbrev pub settingsCommand : Option ℕ → Option ℕ → Option ℕ → Option ℕ → Option ℕ → Command
+settingsCommand (some r) (some w) (some m) (some k) (some s) = Command.Settings r w m k s
+settingsCommand (some r) (some w) (some m) (some k) none = Command.NotNumber Expected.Salt
+settingsCommand (some r) (some w) (some m) none s = Command.NotNumber Expected.Mask
+settingsCommand (some r) (some w) none k s = Command.NotNumber Expected.Buckets
+settingsCommand (some r) none m k s = Command.NotNumber Expected.Width
+settingsCommand none w m k s = Command.NotNumber Expected.Rule
 
-unfoldable pub fourNumbers : List ℕ → Command
-fourNumbers rest =
+-- the fourth word has to be there, and nothing may follow the fifth
+unfoldable pub settingsNumbers : List ℕ → Command
+settingsNumbers rest =
     let second = afterWord rest in
     let third = afterWord second in
     let fourth = afterWord third in
-    lastWord (settingsCommand (valueOf (word rest)) (valueOf (word second)) (valueOf (word third)) (valueOf (word fourth))) Expected.Settings fourth
+    let fifth = afterWord fourth in
+    let command = settingsCommand (firstNumber rest) (firstNumber second) (firstNumber third) (firstNumber fourth) (firstSalt fifth) in
+    withText (alone command Expected.Settings (afterWord fifth)) Expected.Settings fourth
 
 -- with nothing after it, the present settings are asked for
 unfoldable pub settingsLine : List ℕ → Command
-settingsLine rest = ifEmpty rest Command.Present (fourNumbers rest)
+settingsLine rest = ifEmpty rest Command.Present (settingsNumbers rest)
 
 -- ── the keywords ──
 -- a name, and what it asks for

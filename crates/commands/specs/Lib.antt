@@ -1,7 +1,6 @@
--- What a reader has to believe of the commands: words, numbers, what a line asks for, and the figures of a list; and, in Internal, what
--- only contracts of private functions speak of.
+-- What a reader has to believe of the commands: words, what a line asks for, and the figures of a list; and, in Internal, what only
+-- contracts of private functions speak of.
 pub mod Words
-pub mod Numbers
 pub mod Commands
 pub mod Options
 pub mod Figures

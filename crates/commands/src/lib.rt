@@ -22,12 +22,13 @@ pub enum Expected {
     Width,
     Buckets,
     Mask,
+    Salt,
 }
 
 // What a line asks for, or what is wrong with it. A tag or the name of a file is the line's argument.
 pub enum Command {
     Nothing,
-    Settings(u32, u32, u32, u32),
+    Settings(u32, u32, u32, u32, u64),
     // the settings are to be told
     Present,
     Hold,
@@ -47,7 +48,7 @@ pub enum Command {
     Missing(Expected),
     // more stands there than this
     Extra(Expected),
-    // what should be this number is none below 2^32
+    // what should be this number is none, or is too large
     NotNumber(Expected),
 }
 
@@ -65,7 +66,7 @@ pub enum Choice {
     Unknown,
 }
 
-// A number that was typed.
+// A number below 2^32 that was typed.
 enum Decimal {
     Value(u32),
     None,

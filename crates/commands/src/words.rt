@@ -3,13 +3,15 @@ ghost use mathlib.Core.Path.{_≡_};
 ghost use Prim.Native.Nat.{_≤_};
 ghost use lib.ListN.{length, take};
 ghost use Rattle.commands.specs.Words.{blank as blankOf, front as frontOf, skipBlanks, trimEnd, trim, word as wordOf, afterWord, same as sameOf};
-ghost use Rattle.commands.specs.Numbers.{valueOf};
+ghost use Rattle.digits.specs.Numbers.{typedIs};
 ghost use Rattle.commands.specs.Internal.{numberIs};
-ghost use Rattle.commands.specs.Commands.{withText, alone as aloneOf, lastWord, viewCommand, viewLine, settingsCommand, fourNumbers, settingsLine, keywords, asksOf, named as namedOf, commandOf, argumentOf};
+ghost use Rattle.commands.specs.Commands.{withText, alone as aloneOf, lastWord, keywords, asksOf, named as namedOf, commandOf, argumentOf};
+ghost use Rattle.commands.specs.Commands.{firstNumber, firstSalt, viewCommand, viewLine, settingsCommand, settingsNumbers, settingsLine};
 use super::Asks;
 use super::Command;
 use super::Decimal;
 use super::Expected;
+use digits::Typed;
 
 // A space, a tab or the first byte of a line end of two.
 fn blank(b: u8) -> bool
@@ -103,32 +105,6 @@ pub(crate) fn same(x: &[u8], y: &[u8]) -> bool
     true
 }
 
-// A number of decimal digits. One that does not fit is none.
-fn number(text: &[u8]) -> Decimal
-    ensures { λ r. ⌜ numberIs r ≡ valueOf (now (text .entry)) ⌝ }
-{
-    if text.len() == 0 {
-        return Decimal::None;
-    }
-    let mut n = 0u64;
-    let mut i = 0;
-    while i < text.len() {
-        let b = text[i];
-        if b < b'0' {
-            return Decimal::None;
-        }
-        if b > b'9' {
-            return Decimal::None;
-        }
-        n = 10 * n + ((b - b'0') as u64);
-        if n > 4294967295 {
-            return Decimal::None;
-        }
-        i += 1;
-    }
-    Decimal::Value(n as u32)
-}
-
 // A command that something has to stand after.
 fn with_text(c: Command, e: Expected, rest: &[u8]) -> Command
     ensures { λ r. ⌜ r ≡ withText c e (now (rest .entry)) ⌝ }
@@ -160,9 +136,22 @@ fn last_word(c: Command, e: Expected, rest: &[u8]) -> Command
 
 // The number that the first word is.
 fn first_number(text: &[u8]) -> Decimal
-    ensures { λ r. ⌜ numberIs r ≡ valueOf (wordOf (now (text .entry))) ⌝ }
+    ensures { λ r. ⌜ numberIs r ≡ firstNumber (now (text .entry)) ⌝ }
 {
-    number(word(text))
+    match digits::decimal(word(text), 4294967295) {
+        Typed::Number(n) => Decimal::Value(n as u32),
+        Typed::None => Decimal::None,
+    }
+}
+
+// The salt that the first word is, 0 where there is none.
+fn first_salt(text: &[u8]) -> Typed
+    ensures { λ r. ⌜ typedIs r ≡ firstSalt (now (text .entry)) ⌝ }
+{
+    if text.len() == 0 {
+        return Typed::Number(0);
+    }
+    digits::number(word(text), 18446744073709551615)
 }
 
 fn view_command(bucket: Decimal) -> Command
@@ -181,8 +170,14 @@ fn view_line(rest: &[u8]) -> Command
     last_word(view_command(first_number(rest)), Expected::Bucket, rest)
 }
 
-fn settings_command(rule: Decimal, width: Decimal, buckets: Decimal, mask: Decimal) -> Command
-    ensures { λ r. ⌜ r ≡ settingsCommand (numberIs rule) (numberIs width) (numberIs buckets) (numberIs mask) ⌝ }
+fn settings_command(
+    rule: Decimal,
+    width: Decimal,
+    buckets: Decimal,
+    mask: Decimal,
+    salt: Typed,
+) -> Command
+    ensures { λ r. ⌜ r ≡ settingsCommand (numberIs rule) (numberIs width) (numberIs buckets) (numberIs mask) (typedIs salt) ⌝ }
 {
     let Decimal::Value(r) = rule else {
         return Command::NotNumber(Expected::Rule);
@@ -196,35 +191,38 @@ fn settings_command(rule: Decimal, width: Decimal, buckets: Decimal, mask: Decim
     let Decimal::Value(k) = mask else {
         return Command::NotNumber(Expected::Mask);
     };
-    Command::Settings(r, w, m, k)
+    let Typed::Number(s) = salt else {
+        return Command::NotNumber(Expected::Salt);
+    };
+    Command::Settings(r, w, m, k, s)
 }
 
-// The command with its four numbers.
-fn four_numbers(rest: &[u8]) -> Command
-    ensures { λ r. ⌜ r ≡ fourNumbers (now (rest .entry)) ⌝ }
+// The command with its four numbers, and the salt if there is one.
+fn settings_numbers(rest: &[u8]) -> Command
+    ensures { λ r. ⌜ r ≡ settingsNumbers (now (rest .entry)) ⌝ }
 {
     let second = after_word(rest);
     let third = after_word(second);
     let fourth = after_word(third);
+    let fifth = after_word(fourth);
     let rule = first_number(rest);
     let width = first_number(second);
     let buckets = first_number(third);
     let mask = first_number(fourth);
-    last_word(
-        settings_command(rule, width, buckets, mask),
-        Expected::Settings,
-        fourth,
-    )
+    let salt = first_salt(fifth);
+    let command = settings_command(rule, width, buckets, mask, salt);
+    let last = alone(command, Expected::Settings, after_word(fifth));
+    with_text(last, Expected::Settings, fourth)
 }
 
-// The command that takes four numbers, or none to have the present ones told.
+// The command that takes numbers, or none to have the present ones told.
 fn settings_line(rest: &[u8]) -> Command
     ensures { λ r. ⌜ r ≡ settingsLine (now (rest .entry)) ⌝ }
 {
     if rest.len() == 0 {
         return Command::Present;
     }
-    four_numbers(rest)
+    settings_numbers(rest)
 }
 
 // The keywords: their names, and what each asks for, in the same order.

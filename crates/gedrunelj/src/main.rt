@@ -52,17 +52,18 @@ fn echo(log: &mut Log, line: &[u8]) {
 fn help(log: &mut Log) {
     print(
         log,
-        b"settings RULE WIDTH BUCKETS MASK, settings, hold TAG, release TAG, lookup TAG, view BUCKET, clear, save FILE, load FILE, pack FILE, unpack FILE, stats, help; a tag is text, or hexadecimal digits after 0x; # starts a comment; the end of the input ends it\n",
+        b"settings RULE WIDTH BUCKETS MASK [SALT], settings, hold TAG, release TAG, lookup TAG, view BUCKET, clear, save FILE, load FILE, pack FILE, unpack FILE, stats, help; a tag is text, or hexadecimal digits after 0x; # starts a comment; the end of the input ends it\n",
     );
 }
 
 // The settings that a line names, over the defaults.
-fn named_settings(rule: u32, width: u32, buckets: u32, mask: u32) -> Settings {
+fn named_settings(rule: u32, width: u32, buckets: u32, mask: u32, salt: u64) -> Settings {
     let mut s = Settings::defaults();
     s.rule = rule;
     s.width = width;
     s.buckets = buckets;
     s.mask = mask;
+    s.salt = salt;
     s
 }
 
@@ -107,10 +108,10 @@ fn answer(
             state
         }
         Command::Clear => list::set(log, state, state.settings, cells),
-        Command::Settings(rule, width, buckets, mask) => list::set(
+        Command::Settings(rule, width, buckets, mask, salt) => list::set(
             log,
             state,
-            named_settings(rule, width, buckets, mask),
+            named_settings(rule, width, buckets, mask, salt),
             cells,
         ),
         Command::Load => list::load(log, state, commands::argument(line), cells, space),
@@ -369,10 +370,10 @@ fn word_space() -> [u32; 131072]
     [0; 131072]
 }
 
-fn file_space() -> [u8; 589832]
-    ensures { λ r. ⌜ 589832 ≡ length r ⌝ }
+fn file_space() -> [u8; 589840]
+    ensures { λ r. ⌜ 589840 ≡ length r ⌝ }
 {
-    [0; 589832]
+    [0; 589840]
 }
 
 fn serve_lent(log: &mut Log, fd: i32, asks: bool) -> u64 {
@@ -543,7 +544,7 @@ fn main() {
         return;
     }
     if o.version {
-        io::write_all(STDOUT_FILENO, b"gedrunelj 0.3.0\n");
+        io::write_all(STDOUT_FILENO, b"gedrunelj 0.4.0\n");
         report(o.report, 0);
         return;
     }

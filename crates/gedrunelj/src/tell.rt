@@ -164,7 +164,7 @@ pub(crate) fn missing(log: &mut Log, line: u64, what: Expected) {
         _ => bad(
             log,
             line,
-            b"settings takes four numbers, RULE WIDTH BUCKETS MASK, or none to tell the present ones\n",
+            b"settings takes four numbers, RULE WIDTH BUCKETS MASK, and a salt if one is wanted, or none to tell the present ones\n",
         ),
     }
 }
@@ -176,25 +176,35 @@ pub(crate) fn extra(log: &mut Log, line: u64, what: Expected) {
         Expected::Settings => bad(
             log,
             line,
-            b"settings takes four numbers and no more: RULE WIDTH BUCKETS MASK\n",
+            b"settings takes four numbers and a salt, and no more: RULE WIDTH BUCKETS MASK [SALT]\n",
         ),
         _ => bad(log, line, b"the command stands alone\n"),
     }
 }
 
-// The number that is none.
-pub(crate) fn not_number(log: &mut Log, line: u64, what: Expected) {
-    match what {
-        Expected::Rule => bad(log, line, b"the rule"),
-        Expected::Width => bad(log, line, b"the width"),
-        Expected::Buckets => bad(log, line, b"the bucket count"),
-        Expected::Mask => bad(log, line, b"the mask"),
-        _ => bad(log, line, b"the bucket"),
-    }
+// A number that is none in decimal digits.
+fn not_decimal(log: &mut Log, line: u64, name: &[u8]) {
+    bad(log, line, name);
     print(
         log,
         b" is not a number in decimal digits below 4294967296\n",
     );
+}
+
+// The number that is none.
+pub(crate) fn not_number(log: &mut Log, line: u64, what: Expected) {
+    match what {
+        Expected::Rule => not_decimal(log, line, b"the rule"),
+        Expected::Width => not_decimal(log, line, b"the width"),
+        Expected::Buckets => not_decimal(log, line, b"the bucket count"),
+        Expected::Mask => not_decimal(log, line, b"the mask"),
+        Expected::Salt => bad(
+            log,
+            line,
+            b"the salt is not a number below 18446744073709551616, in decimal or hexadecimal digits after 0x\n",
+        ),
+        _ => not_decimal(log, line, b"the bucket"),
+    }
 }
 
 // ── numbers of a list ──
@@ -223,7 +233,8 @@ pub(crate) fn print_settings(log: &mut Log, s: Settings) {
     print_with(log, b"rule ", s.rule as u64, b", width ");
     print_with(log, b"", s.width as u64, b", buckets ");
     print_with(log, b"", s.buckets as u64, b", mask ");
-    print_with(log, b"", s.mask as u64, b"\n");
+    print_with(log, b"", s.mask as u64, b", salt ");
+    print_with(log, b"", s.salt, b"\n");
 }
 
 pub(crate) fn accepted(log: &mut Log, moves: u32) {

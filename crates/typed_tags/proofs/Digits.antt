@@ -10,30 +10,19 @@ use Prim.Native.Nat.{ℕ, zero, suc, _+_, _*_, _-_, _/_, _≤_, _<_}
 use native.Mathlib.Numerals.{add-one}
 use native.Mathlib.Omega.{arith}
 use borrow.Author.Tests.{le-leb, lt-leb, leb-true, eq-eqb, ne-eqb}
-use lib.Dec.{eqb, leb}
+use lib.Dec.{eqb}
 use lib.ListN.{length, getD, take, drop, set, length-append, length-drop}
 use lib.Seq.{length-take-le, take-all, take-suc, drop-cons, set-at}
+use Rattle.digits.specs.Digits.{hexValue, hexDigit, hexMark}
 use Rattle.refusals.specs.Checks.{firstMet}
 use Rattle.index.specs.Hash.{tagChecks}
 use Rattle.index.specs.Settings.{defaultSettings}
 use Rattle.index.proofs.Checks.{check-laws}
 use Rattle.refusals.specs.Outcomes.{Answer, refused, given, unless, Done, done, Outcome, outcome, keeping}
 use Rattle.refusals.proofs.Cursor.{call-refused, call-goes-on}
-use Rattle.typed_tags.specs.Tags.{hexValue, hexDigit, also, hexBytes, tagBytes, tagIs, tagOut, tagLength, Starts}
-use Rattle.typed_tags.specs.Internal.{hexPasses, hexPairs, hexMark}
+use Rattle.typed_tags.specs.Tags.{also, hexBytes, tagBytes, tagIs, tagOut, tagLength, Starts}
+use Rattle.typed_tags.specs.Internal.{hexPasses, hexPairs}
 use Rattle.typed_tags.specs.declared.TagAnswer.{TagAnswer}
-
--- ── the value of a digit ──
--- whether a byte is in a range
-module _ (m n b : ℕ) where
-  pub in-range : m ≤ b → leb b n ≡ true → (leb m b && leb b n) ≡ true
-  in-range h e = rw (le-leb m b h, e)
-
-  pub past-range : m ≤ b → leb b n ≡ false → (leb m b && leb b n) ≡ false
-  past-range h e = rw (le-leb m b h, e)
-
-  pub below-range : b < m → (leb m b && leb b n) ≡ false
-  below-range h = rw (lt-leb m b h)
 
 -- ── digits that pass, and those that do not ──
 bytes-pass : (l : List ℕ) → hexPasses l ≡ true → hexBytes l ≡ some (hexPairs l)
@@ -143,41 +132,14 @@ module _ (t out : List ℕ) where
   is-given n o h k e f = rw (e, f) (call-goes-on out (tagged t out) (check-laws defaultSettings .tag-passes t (pos-of-ne-zero h) k))
 
 -- ── the mark ──
-pub mark-bytes : (t : List ℕ) → hexMark t ≡ true → tagBytes t ≡ hexBytes (drop 2 t)
-unfolding hexMark tagBytes
-mark-bytes [] e = cc
-mark-bytes (a ∷ []) e = cc
-mark-bytes (a ∷ b ∷ l) e = rw e refl
+module _ (t : List ℕ) where
+  pub mark-bytes : hexMark t ≡ true → tagBytes t ≡ hexBytes (drop 2 t)
+  unfolding tagBytes
+  mark-bytes e = rw e
 
-pub mark-length : (t : List ℕ) → hexMark t ≡ true → 2 ≤ length t
-unfolding hexMark
-mark-length [] e = absurd (let z : _≡_ {A = ℕ} 0 1 = cc in omega arith)
-mark-length (a ∷ []) e = absurd (let z : _≡_ {A = ℕ} 0 1 = cc in omega arith)
-mark-length (a ∷ b ∷ l) e = omega arith
-
-pub plain-bytes : (t : List ℕ) → hexMark t ≡ false → tagBytes t ≡ some t
-unfolding hexMark tagBytes
-plain-bytes [] e = refl
-plain-bytes (a ∷ []) e = refl
-plain-bytes (a ∷ b ∷ l) e = rw e refl
-
-pub mark-short : (t : List ℕ) → length t < 2 → hexMark t ≡ false
-unfolding hexMark
-mark-short [] h = refl
-mark-short (a ∷ []) h = refl
-mark-short (a ∷ b ∷ l) h = absurd (omega arith)
-
-pub mark-first : (t : List ℕ) → 2 ≤ length t → getD t 0 0 ≢ 48 → hexMark t ≡ false
-unfolding hexMark
-mark-first [] h n = absurd (omega arith)
-mark-first (a ∷ []) h n = absurd (omega arith)
-mark-first (a ∷ b ∷ l) h n = rw (ne-eqb a 48 n) refl
-
-pub mark-second : (t : List ℕ) → 2 ≤ length t → getD t 0 0 ≡ 48 → hexMark t ≡ eqb (getD t 1 0) 120
-unfolding hexMark
-mark-second [] h e = absurd (omega arith)
-mark-second (a ∷ []) h e = absurd (omega arith)
-mark-second (a ∷ b ∷ l) h e = rw (eq-eqb a 48 e) refl
+  pub plain-bytes : hexMark t ≡ false → tagBytes t ≡ some t
+  unfolding tagBytes
+  plain-bytes e = rw e
 
 -- ── the tag at the start of what the call leaves ──
 within : (n : ℕ) (l : List ℕ) → n ≤ length l → Starts n l

@@ -3,8 +3,7 @@
 use mathlib.Core.Bool.{Bool, true, false, _&&_}
 use mathlib.Core.List.{List, [], _∷_}
 use Prim.Native.Nat.{ℕ, _+_, _*_}
-use lib.Dec.{eqb}
-use Rattle.typed_tags.specs.Tags.{hexValue, hexDigit}
+use Rattle.digits.specs.Digits.{hexValue, hexDigit}
 
 -- whether digits stand for bytes
 unfoldable pub hexPasses : List ℕ → Bool
@@ -17,9 +16,3 @@ unfoldable pub hexPairs : List ℕ → List ℕ
 hexPairs [] = []
 hexPairs (a ∷ []) = []
 hexPairs (a ∷ b ∷ l) = (16 * hexValue a + hexValue b) ∷ hexPairs l
-
--- whether text starts with 0x
-unfoldable pub hexMark : List ℕ → Bool
-hexMark [] = false
-hexMark (a ∷ []) = false
-hexMark (a ∷ b ∷ l) = eqb a 48 && eqb b 120

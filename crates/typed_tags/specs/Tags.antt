@@ -4,23 +4,13 @@ use mathlib.Core.Bool.{Bool, true, false, cond, _&&_}
 use mathlib.Core.Path.{_≡_}
 use mathlib.Core.List.{List, [], _∷_, _++_}
 use mathlib.Core.Option.{Option, none, some}
-use Prim.Native.Nat.{ℕ, _≤_, _+_, _*_, _-_}
-use lib.Dec.{eqb, leb}
+use Prim.Native.Nat.{ℕ, _≤_, _+_, _*_}
 use lib.ListN.{length, take, drop}
+use Rattle.digits.specs.Digits.{hexValue, hexDigit, hexMark}
 use Rattle.refusals.specs.Checks.{firstMet}
 use Rattle.refusals.specs.Outcomes.{Answer, refused, given, unless, done, Outcome, keeping}
 use Rattle.index.specs.Hash.{tagChecks}
 use Rattle.typed_tags.specs.declared.TagAnswer.{TagAnswer}
-
--- a hexadecimal digit's value, 16 for any other byte
-unfoldable pub hexValue : ℕ → ℕ
-hexValue b =
-    cond (leb 48 b && leb b 57) (b - 48) (
-    cond (leb 97 b && leb b 102) (b - 87) (
-    cond (leb 65 b && leb b 70) (b - 55) 16))
-
-abbrev pub hexDigit : ℕ → Bool
-hexDigit b = leb (hexValue b) 15
 
 -- two digits to a byte
 abbrev pub also : Bool → ℕ → Option (List ℕ) → Option (List ℕ)
@@ -35,9 +25,7 @@ hexBytes (a ∷ b ∷ l) = also (hexDigit a && hexDigit b) (16 * hexValue a + he
 
 -- after 0x the digits, else the text itself
 unfoldable pub tagBytes : List ℕ → Option (List ℕ)
-tagBytes [] = some []
-tagBytes (a ∷ []) = some (a ∷ [])
-tagBytes (a ∷ b ∷ l) = cond (eqb a 48 && eqb b 120) (hexBytes l) (some (a ∷ b ∷ l))
+tagBytes l = cond (hexMark l) (hexBytes (drop 2 l)) (some l)
 
 -- what the call says: the tag's length, or none for digits that are not hexadecimal
 abbrev pub tagIs : TagAnswer → Answer (Option ℕ)

@@ -6,30 +6,16 @@ ghost use mathlib.Core.Option.{some};
 ghost use Prim.Native.Nat.{_≤_, _/_};
 ghost use lib.ListN.{length, drop};
 ghost use Rattle.refusals.specs.Outcomes.{outcome};
-ghost use Rattle.typed_tags.specs.Tags.{hexValue, hexBytes, tagBytes, tagIs, tagOut, tagLength, Starts};
-ghost use Rattle.typed_tags.specs.Internal.{hexPasses, hexPairs, hexMark};
+ghost use Rattle.typed_tags.specs.Tags.{hexBytes, tagBytes, tagIs, tagOut, tagLength, Starts};
+ghost use Rattle.typed_tags.specs.Internal.{hexPasses, hexPairs};
+use digits::hex_value;
+use digits::is_marked;
 
 // A tag that was typed: its length, the number by which it is refused, or digits that are none.
 pub enum TagAnswer {
     Is(usize),
     Refused(u32),
     NotHex,
-}
-
-// The value of a hexadecimal digit, 16 for any other byte.
-fn hex_value(b: u8) -> u8
-    ensures { λ r. ⌜ r ≡ hexValue b ⌝ }
-{
-    if b'0' <= b && b <= b'9' {
-        return b - b'0';
-    }
-    if b'a' <= b && b <= b'f' {
-        return b - b'a' + 10;
-    }
-    if b'A' <= b && b <= b'F' {
-        return b - b'A' + 10;
-    }
-    16
 }
 
 // Whether these are hexadecimal digits, two to a byte.
@@ -107,19 +93,6 @@ fn text_tag(text: &[u8], out: &mut [u8; 64]) -> TagAnswer
     }
     copy(text, out);
     TagAnswer::Is(n)
-}
-
-// Whether text starts with 0x.
-fn is_marked(text: &[u8]) -> bool
-    ensures { λ r. ⌜ r ≡ hexMark (now (text .entry)) ⌝ }
-{
-    if text.len() < 2 {
-        return false;
-    }
-    if text[0] != b'0' {
-        return false;
-    }
-    text[1] == b'x'
 }
 
 // The tag that was typed, to the start of the output, whose later bytes stay as they are.

@@ -1,12 +1,11 @@
-use Prim.Native.Nat.{ℕ, _-_, _≤_}
+use Prim.Native.Nat.{ℕ, _≤_}
 use borrow.Author.Needs.{needs}
-use lib.ListN.{length, drop, length-drop}
-use lib.Seq.{take-all}
-use native.Mathlib.Omega.{arith}
+use lib.ListN.{length}
 use mathlib.Core.List.{List}
 use mathlib.Core.Option.{Option}
 use mathlib.Core.Path.{_≡_, sym, ap, _∙_}
-use Rattle.typed_tags.proofs.Digits.{mark-bytes, mark-length, plain-bytes, starts}
+use Rattle.digits.proofs.Texts.{from, mark-length}
+use Rattle.typed_tags.proofs.Digits.{mark-bytes, plain-bytes, starts}
 use Rattle.typed_tags.proofs.tag.Statement.{statement}
 use Rattle.typed_tags.proofs.tag.Tie as tie
 use Rattle.refusals.specs.Outcomes.{outcome}
@@ -34,7 +33,7 @@ returns c =
     let a = d .before .before .before .args in
     both (c .digits-tag .result) (a .out .now) (tagBytes (a .text .now))
     (c .digits-tag .ensures
-    ∙ ap (λ (l : List ℕ). tagOut (hexBytes l) (a .out .now)) (take-all (length (a .text .now) - 2) (drop 2 (a .text .now)) (omega (arith, length-drop 2 (a .text .now))))
+    ∙ ap (λ (l : List ℕ). tagOut (hexBytes l) (a .out .now)) (from (a .text .now) 2)
     ∙ sym (ap (λ (o : Option (List ℕ)). tagOut o (a .out .now)) (mark-bytes (a .text .now) (sym (d .before .is-marked .ensures) ∙ d .if1 .taken))))
 
 returns-2 : tie.Need-returns-2

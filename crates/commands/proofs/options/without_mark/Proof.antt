@@ -6,7 +6,7 @@ use Prim.Native.Nat.{ℕ, _<_}
 use native.Mathlib.Omega.{arith}
 use lib.ListN.{length, take, drop}
 use lib.Seq.{length-take-le}
-use Rattle.commands.proofs.Scanning.{from}
+use Rattle.digits.proofs.Texts.{from}
 use Rattle.commands.specs.Words.{same}
 use Rattle.commands.specs.Options.{withoutMark}
 use Rattle.commands.proofs.options.without_mark.Statement.{statement}

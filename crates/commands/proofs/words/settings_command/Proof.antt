@@ -25,11 +25,20 @@ returns-4 c =
 
 returns-5 : tie.Need-returns-5
 returns-5 c =
-    let k = c .before in
+    let k = c .before .before .before in
     let m = k .before .before .before in
     let w = m .before .before .before in
     let r = w .before .before .before in
-    rw (r .rule .given .1, w .width .given .1, m .buckets .given .1, k .mask .given .1)
+    rw (r .rule .given .1, w .width .given .1, m .buckets .given .1, k .mask .given .1, c .enum-told5 .given .1)
+
+returns-6 : tie.Need-returns-6
+returns-6 c =
+    let s = c .before in
+    let k = s .before .before .before in
+    let m = k .before .before .before in
+    let w = m .before .before .before in
+    let r = w .before .before .before in
+    rw (r .rule .given .1, w .width .given .1, m .buckets .given .1, k .mask .given .1, s .salt .given .1)
 
 pub settings-command-spec : {M : Type 1} → statement M
 settings-command-spec =
@@ -47,4 +56,7 @@ settings-command-spec =
     (λ c. search needs)
     (λ c. search needs)
     returns-4
-    returns-5)
+    (λ c. search needs)
+    (λ c. search needs)
+    returns-5
+    returns-6)

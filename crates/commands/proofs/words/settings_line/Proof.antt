@@ -11,7 +11,7 @@ returns c = empty (c .before .before .args .rest .now) _ _ (c .if1 .taken)
 
 returns-2 : tie.Need-returns-2
 unfolding settingsLine
-returns-2 c = c .four-numbers .ensures ∙ full (c .before .before .before .args .rest .now) _ _ (c .before .if1 .left)
+returns-2 c = c .settings-numbers .ensures ∙ full (c .before .before .before .args .rest .now) _ _ (c .before .if1 .left)
 
 pub settings-line-spec : {M : Type 1} → statement M
 settings-line-spec = tie.close (tie.spec returns (λ c κs. search needs) returns-2)

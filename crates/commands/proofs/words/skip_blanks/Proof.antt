@@ -2,7 +2,7 @@ use Prim.Native.Nat.{ℕ}
 use borrow.Author.Needs.{needs}
 use lib.ListN.{drop}
 use mathlib.Core.Path.{ap, _∙_}
-use Rattle.commands.proofs.Scanning.{from}
+use Rattle.digits.proofs.Texts.{from}
 use Rattle.commands.specs.Words.{skipBlanks}
 use Rattle.commands.proofs.words.skip_blanks.Statement.{statement}
 use Rattle.commands.proofs.words.skip_blanks.Tie as tie

@@ -4,10 +4,10 @@ use mathlib.Core.Bool.{false, _&&_}
 use mathlib.Core.Logic.{⊎-elim}
 use mathlib.Core.Path.{_≡_}
 use native.Mathlib.Omega.{arith}
-use Rattle.typed_tags.proofs.Digits.{in-range, past-range, below-range}
-use Rattle.typed_tags.specs.Tags.{hexValue}
-use Rattle.typed_tags.proofs.hex_value.Statement.{statement}
-use Rattle.typed_tags.proofs.hex_value.Tie as tie
+use Rattle.digits.proofs.Digits.{in-range, past-range, below-range}
+use Rattle.digits.specs.Digits.{hexValue}
+use Rattle.digits.proofs.hex_value.Statement.{statement}
+use Rattle.digits.proofs.hex_value.Tie as tie
 
 no-decimal : (c : tie.Joined1) → (leb 48 (c .before .args .b) && leb (c .before .args .b) 57) ≡ false
 no-decimal c = ⊎-elim (λ w. past-range 48 57 _ (w .0 .taken) (w .1 .left)) (λ w. below-range 48 57 _ (w .left)) (c .if1 .came)

@@ -1,8 +1,8 @@
 use mathlib.Core.Path.{sym}
-use Rattle.typed_tags.proofs.Digits.{mark-short, mark-first, mark-second}
+use Rattle.digits.proofs.Digits.{mark-short, mark-first, mark-second}
 use borrow.Author.Needs.{needs}
-use Rattle.typed_tags.proofs.is_marked.Statement.{statement}
-use Rattle.typed_tags.proofs.is_marked.Tie as tie
+use Rattle.digits.proofs.is_marked.Statement.{statement}
+use Rattle.digits.proofs.is_marked.Tie as tie
 
 returns : tie.Need-returns
 returns c = sym (mark-short (c .before .args .text .now) (c .if1 .taken))
