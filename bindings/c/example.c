@@ -12,9 +12,9 @@
 
 #include "holdlist.h"
 
-/* the ring rule, fingerprints of 12 bits, ten buckets, no mask */
+/* the ring rule, fingerprints of 12 bits, ten buckets, no mask, no salt */
 #define BUCKETS 10
-static const holdlist_settings settings = {1, 12, BUCKETS, 0};
+static const holdlist_settings settings = {1, 12, BUCKETS, 0, 0};
 
 /* a buffer as its two arguments */
 #define LENT(t) (t), sizeof(t) / sizeof((t)[0])
@@ -47,7 +47,7 @@ int main(void)
     char tag[16];
     int held = 0, moves = 0, found = 0;
     int64_t answer, size;
-    holdlist_settings odd = {1, 12, 11, 0}, named;
+    holdlist_settings odd = {1, 12, 11, 0, 0}, season = settings, named;
 
     printf("settings: %" PRId64 "\n", holdlist_settings_check(&settings));
     answer = holdlist_settings_check(&odd);
@@ -80,8 +80,9 @@ int main(void)
     size = holdlist_file_write(&settings, LENT(table), file, sizeof file);
     printf("saved: %" PRId64 " bytes\n", size);
     answer = holdlist_file_settings(file, (size_t)size, &named);
-    printf("named: %" PRId64 ", rule %" PRIu32 ", width %" PRIu32 ", buckets %" PRIu32 ", mask %" PRIu32 "\n",
-           answer, named.rule, named.width, named.buckets, named.mask);
+    printf("named: %" PRId64 ", rule %" PRIu32 ", width %" PRIu32 ", buckets %" PRIu32 ", mask %" PRIu32
+           ", salt %" PRIu64 "\n",
+           answer, named.rule, named.width, named.buckets, named.mask, named.salt);
     if (answer < 0 || named.buckets > BUCKETS)
         return 1; /* there is no table of that size here */
     answer = holdlist_file_read(file, (size_t)size, copy, HOLDLIST_CELLS(named.buckets), &named);
@@ -101,5 +102,14 @@ int main(void)
         found += lookup(copy, tag) > 0;
     }
     printf("found in it: %d\n", found);
-    return 0;
+
+    /* the next season's list has a salt of its own, and so other fingerprints; its file names the salt */
+    season.salt = 2027;
+    printf("fingerprint of ewe 3: %" PRId64 ", next season: %" PRId64 "\n",
+           holdlist_fingerprint(&settings, bytes_of("ewe 3"), 5), holdlist_fingerprint(&season, bytes_of("ewe 3"), 5));
+    holdlist_clear(&season, LENT(table));
+    size = holdlist_file_write(&season, LENT(table), file, sizeof file);
+    answer = holdlist_file_settings(file, (size_t)size, &named);
+    printf("an empty list of the next season: %" PRId64 " bytes, salt %" PRIu64 "\n", size, named.salt);
+    return answer < 0;
 }

@@ -10,9 +10,17 @@
  * to settings, and the contents of scratch stay as they were unless the number is 9.
  *
  * SETTINGS. A pointer to a holdlist_settings, below, comes first in every call but the two that read a hold file, which
- * write one. Settings are checked before anything else, in the order of their members, and give 1, 2, 3 or 4. A table
- * is used with the settings that it was cleared or read with: nothing in it says which those were. A later version may
- * append members, so set them all: an initialiser, as { 1, 12, 1000, 0 }, makes those that it leaves out 0.
+ * write one. Settings are checked before anything else, in the order of their members, and give 1, 2, 3 or 4; every
+ * salt passes. A table is used with the settings that it was cleared or read with: nothing in it says which those were.
+ * A later version may append members, so set them all: an initialiser, as { 1, 12, 1000, 0 }, makes those that it
+ * leaves out 0. Version 0.4 appended the salt: what was compiled with an older header has to be compiled anew.
+ *
+ * SALT. A clear tag that shares fingerprint and candidates with a held one reads held. Under one salt the same unlucky
+ * tags do so all year; under another others do, so each season's list can have its own. Let salts differ in their low
+ * eight bits, as 1, 2, 3 do: salts that agree there move the hashes of all tags of one length by the same number, and
+ * many of the unlucky tags stay unlucky. Lists of different salts are different lists: a tag is found with the salt
+ * that it was held with. The hold file has the salt, the packed form has not. Salt 0, the default, gives what version
+ * 0.3 gave.
  *
  * BUFFERS. A buffer is a pointer and a count of elements. It holds at least that many elements and is aligned as its
  * element type asks; a null pointer with count 0 is an empty buffer. A buffer that a call writes overlaps none of its
@@ -42,9 +50,9 @@ extern "C" {
 
 /* The version, that of the whole repository (its file VERSION). */
 #define HOLDLIST_VERSION_MAJOR 0
-#define HOLDLIST_VERSION_MINOR 3
+#define HOLDLIST_VERSION_MINOR 4
 #define HOLDLIST_VERSION_PATCH 0
-#define HOLDLIST_VERSION "0.3.0"
+#define HOLDLIST_VERSION "0.4.0"
 
 /* Settings, any numbers of which can be handed in. */
 typedef struct {
@@ -52,15 +60,22 @@ typedef struct {
     uint32_t width;   /* bits of a fingerprint, 4 to 16 */
     uint32_t buckets; /* 1 to 65536: a power of two under rules 0 and 2, even under rule 1 */
     uint32_t mask;    /* below buckets under rule 2, and 0 under the others */
+    uint64_t salt;    /* any number: put by exclusive or to the start of the hash of a tag */
 } holdlist_settings;
 
-/* The library takes them as four 32-bit numbers in a row. A compiler that lays them out otherwise stops here. */
-typedef char holdlist_settings_are_four_numbers
-    [sizeof(holdlist_settings) == 4 * sizeof(uint32_t) && offsetof(holdlist_settings, rule) == 0 &&
+/*
+ * The library takes them as six 32-bit numbers in a row, of which the last two are the salt, its low half first. A
+ * compiler that lays them out otherwise stops here.
+ */
+typedef char holdlist_settings_are_six_numbers
+    [sizeof(holdlist_settings) == 24 && offsetof(holdlist_settings, rule) == 0 &&
              offsetof(holdlist_settings, width) == 4 && offsetof(holdlist_settings, buckets) == 8 &&
-             offsetof(holdlist_settings, mask) == 12
+             offsetof(holdlist_settings, mask) == 12 && offsetof(holdlist_settings, salt) == 16
          ? 1
          : -1];
+#if defined(__BYTE_ORDER__) && __BYTE_ORDER__ != __ORDER_LITTLE_ENDIAN__
+#error "the hold list needs a machine whose numbers have their low byte first"
+#endif
 
 /* What a refusal's number means. There is no 10. */
 enum {
@@ -74,7 +89,7 @@ enum {
     HOLDLIST_REFUSED_BUCKET = 8,          /* there is no bucket of this number */
     HOLDLIST_REFUSED_FULL = 9,            /* the list has no room for the tag, however its entries are moved */
     HOLDLIST_REFUSED_SHORT = 11,          /* the bytes end early */
-    HOLDLIST_REFUSED_MAP = 12,            /* a map bit 4 to 7; a field with its default; a mask against the rule */
+    HOLDLIST_REFUSED_MAP = 12,            /* a map bit 5 to 7; a field with its default; a mask against the rule */
     HOLDLIST_REFUSED_BUCKET_BYTE = 13,    /* a bucket's byte is above 15 */
     HOLDLIST_REFUSED_FINGERPRINT = 14,    /* a fingerprint is 0, or 2^width or more */
     HOLDLIST_REFUSED_LEFT_OVER = 15,      /* bytes are left over */
@@ -139,7 +154,7 @@ static inline const char *holdlist_refusal_text(int64_t refusal)
 /* Sizes for settings that pass. The last two are the most bytes that a list can take in either form. */
 #define HOLDLIST_CELLS(buckets) ((size_t)4 * (buckets))
 #define HOLDLIST_SCRATCH(buckets) ((size_t)2 * (buckets))
-#define HOLDLIST_FILE_BYTES(buckets) ((size_t)7 + (size_t)9 * (buckets))
+#define HOLDLIST_FILE_BYTES(buckets) ((size_t)15 + (size_t)9 * (buckets))
 #define HOLDLIST_PACKED_BYTES(width, buckets) (((size_t)4 * ((width) - 1) * (buckets) + 7) / 8)
 
 /*
@@ -158,8 +173,8 @@ int64_t holdlist_fingerprint(const holdlist_settings *settings, const uint8_t *t
 int64_t holdlist_home(const holdlist_settings *settings, const uint8_t *tag, size_t tag_count);
 
 /*
- * The offset of a fingerprint, by which its candidate buckets lie apart. Any 16-bit value has one. Writes nothing.
- * Refuses with 1 to 4.
+ * The offset of a fingerprint, by which its candidate buckets lie apart. Any 16-bit value has one, and it is the same
+ * under every salt. Writes nothing. Refuses with 1 to 4.
  */
 int64_t holdlist_offset(const holdlist_settings *settings, uint16_t fingerprint);
 
@@ -218,7 +233,7 @@ int64_t holdlist_file_write(const holdlist_settings *settings, const uint16_t *t
 
 /*
  * The settings that a hold file names, so that a table of their size can be lent to holdlist_file_read. Answers 0, with
- * the settings in settings: they pass. It looks at the header alone, at most 7 bytes, so that the file may be bad
+ * the settings in settings: they pass. It looks at the header alone, at most 15 bytes, so that the file may be bad
  * behind it. Whatever it refuses holdlist_file_read refuses with the same number.
  * Refuses with 11, 12, then 1 to 4 for the file's settings.
  */
@@ -234,9 +249,9 @@ int64_t holdlist_file_read(const uint8_t *bytes, size_t bytes_count, uint16_t *t
                            holdlist_settings *settings);
 
 /*
- * Writes the list in its packed form, which leaves out the settings and the order within a bucket. Answers how many
- * bytes of out it wrote, HOLDLIST_PACKED_BYTES(width, buckets); later bytes of out keep their values.
- * Refuses with 1 to 4, 5, 17, 16.
+ * Writes the list in its packed form, which leaves out the settings, the salt among them, and the order within a
+ * bucket. Answers how many bytes of out it wrote, HOLDLIST_PACKED_BYTES(width, buckets); later bytes of out keep their
+ * values. Refuses with 1 to 4, 5, 17, 16.
  */
 int64_t holdlist_packed_write(const holdlist_settings *settings, const uint16_t *table, size_t table_count,
                               uint8_t *out, size_t out_count);

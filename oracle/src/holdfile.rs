@@ -11,13 +11,18 @@ const DEFAULTS: Settings = Settings {
     width: 12,
     buckets: 4_096,
     mask: 0,
+    salt: 0,
 };
+
+/// Bytes of the longest head: the map and all fields.
+pub const HEAD: usize = 15;
 
 /// The bits of the map, in the order of the fields.
 const RULE: u8 = 1;
 const WIDTH: u8 = 2;
 const BUCKETS: u8 = 4;
 const MASK: u8 = 8;
+const SALT: u8 = 16;
 
 /// Four 16-bit numbers side by side, of which each is 1.
 const ONES: u64 = 0x0001_0001_0001_0001;
@@ -42,14 +47,14 @@ pub(crate) fn check_cells(settings: Settings, table: &[u16]) -> Answer<()> {
 
 /// The map and the fields that follow it.
 pub(crate) struct Head {
-    bytes: [u8; 7],
+    bytes: [u8; HEAD],
     length: usize,
 }
 
 impl Head {
     pub(crate) fn of(settings: Settings) -> Self {
         let mut head = Head {
-            bytes: [0; 7],
+            bytes: [0; HEAD],
             length: 1,
         };
         if settings.rule != DEFAULTS.rule {
@@ -63,6 +68,9 @@ impl Head {
         }
         if settings.rule == MASKED {
             head.push(MASK, &(settings.mask as u16).to_le_bytes());
+        }
+        if settings.salt != DEFAULTS.salt {
+            head.push(SALT, &settings.salt.to_le_bytes());
         }
         head
     }
@@ -121,7 +129,7 @@ fn take<const N: usize>(bytes: &mut &[u8]) -> Answer<[u8; N]> {
 /// Takes the map and the fields.
 pub(crate) fn take_head(bytes: &mut &[u8]) -> Answer<Settings> {
     let [map] = take(bytes)?;
-    if map >> 4 != 0 {
+    if map >> 5 != 0 {
         return Err(12);
     }
     let present = |bit: u8| map & bit != 0;
@@ -138,10 +146,14 @@ pub(crate) fn take_head(bytes: &mut &[u8]) -> Answer<Settings> {
     if present(MASK) {
         settings.mask = u16::from_le_bytes(take(bytes)?).into();
     }
+    if present(SALT) {
+        settings.salt = u64::from_le_bytes(take(bytes)?);
+    }
     if present(RULE) && settings.rule == DEFAULTS.rule
         || present(WIDTH) && settings.width == DEFAULTS.width
         || present(BUCKETS) && settings.buckets == DEFAULTS.buckets
         || present(MASK) != (settings.rule == MASKED)
+        || present(SALT) && settings.salt == DEFAULTS.salt
     {
         return Err(12);
     }
@@ -223,6 +235,13 @@ mod tests {
 
     const EXAMPLE: [u8; 9] = [0x06, 0x04, 0x00, 0x00, 0x0a, 0x09, 0x00, 0x03, 0x00];
 
+    /// The same list with a salt.
+    const SALTED: [u8; 17] = [
+        0x16, 0x04, 0x00, 0x00, 0xef, 0xcd, 0xab, 0x89, 0x67, 0x45, 0x23, 0x01, 0x0a, 0x09, 0x00,
+        0x03, 0x00,
+    ];
+    const SOME_SALT: u64 = 0x0123_4567_89ab_cdef;
+
     /// What reading answers, where a refusal has to leave the table alone.
     fn answer(bytes: &[u8], cells: usize) -> Answer<Settings> {
         let mut table = vec![0x5a5a; cells];
@@ -245,6 +264,24 @@ mod tests {
         let mut table = [7; 4];
         assert_eq!(read(&EXAMPLE, &mut table), Ok(settings));
         assert_eq!(table, [0, 9, 0, 3]);
+    }
+
+    #[test]
+    fn example_with_a_salt() {
+        let settings = Settings::new(PLAIN, 4, 1, 0).with_salt(SOME_SALT);
+        let mut out = [0xee; 20];
+        assert_eq!(write(settings, &[0, 9, 0, 3], &mut out), Ok(17));
+        assert_eq!(out[..17], SALTED);
+        assert_eq!(out[17..], [0xee; 3]);
+        let mut table = [7; 4];
+        assert_eq!(read(&SALTED, &mut table), Ok(settings));
+        assert_eq!(table, [0, 9, 0, 3]);
+        // All settings but the salt are the default.
+        let mut table = [7; 4 * 4_096];
+        let mut file = vec![0; 9 + 4_096];
+        file[..9].copy_from_slice(&[0x10, 1, 2, 3, 4, 5, 6, 7, 8]);
+        let default = DEFAULTS.with_salt(0x0807_0605_0403_0201);
+        assert_eq!(read(&file, &mut table), Ok(default));
     }
 
     #[test]
@@ -273,6 +310,25 @@ mod tests {
         );
     }
 
+    /// The salt comes after all other fields, the mask too, its low byte first.
+    #[test]
+    fn heads_with_a_salt() {
+        let head =
+            |settings: Settings, salt| Head::of(settings.with_salt(salt)).as_slice().to_vec();
+        let masked = Settings::new(MASKED, 4, 1_024, 0x155);
+        assert_eq!(
+            head(masked, SOME_SALT),
+            [31, 2, 4, 0xff, 3, 0x55, 0x01, 0xef, 0xcd, 0xab, 0x89, 0x67, 0x45, 0x23, 0x01]
+        );
+        assert_eq!(head(DEFAULTS, 1), [16, 1, 0, 0, 0, 0, 0, 0, 0]);
+        assert_eq!(head(DEFAULTS, 1 << 63), [16, 0, 0, 0, 0, 0, 0, 0, 0x80]);
+        assert_eq!(head(DEFAULTS, 1 << 32), [16, 0, 0, 0, 0, 1, 0, 0, 0]);
+        assert_eq!(head(DEFAULTS, u64::MAX)[1..], [0xff; 8]);
+        assert_eq!(head(DEFAULTS, 0), [0]);
+        assert_eq!(head(masked, 0), [15, 2, 4, 0xff, 3, 0x55, 0x01]);
+        assert_eq!(head(masked, 1).len(), HEAD);
+    }
+
     #[test]
     fn round_trips() {
         let mut mix = Mix(11);
@@ -285,6 +341,9 @@ mod tests {
             Settings::new(MASKED, 12, 4_096, 0),
             Settings::new(MASKED, 7, 65_536, 65_535),
             Settings::new(MASKED, 4, 1, 0),
+            DEFAULTS.with_salt(1),
+            Settings::new(RING, 5, 6, 0).with_salt(u64::MAX),
+            Settings::new(MASKED, 9, 16, 12).with_salt(SOME_SALT),
         ] {
             for empty in [0, 1, 2, 5, 100] {
                 let below = 1 << settings.width;
@@ -295,7 +354,7 @@ mod tests {
                     })
                     .collect();
                 let filled = table.iter().filter(|&&cell| cell != 0).count();
-                let mut out = mix.bytes(7 + 9 * settings.buckets as usize + 1);
+                let mut out = mix.bytes(HEAD + 9 * settings.buckets as usize + 1);
                 let before = out.clone();
                 let length = write(settings, &table, &mut out).unwrap();
                 let head = Head::of(settings).length;
@@ -347,6 +406,9 @@ mod tests {
         assert_eq!(refusal(&all, 16), 11);
         let whole = [&all[..], &[0]].concat();
         assert_eq!(answer(&whole, 16), Ok(Settings::new(MASKED, 4, 4, 2)));
+        for length in 0..SALTED.len() {
+            assert_eq!(refusal(&SALTED[..length], 4), 11, "{length}");
+        }
     }
 
     #[test]
@@ -358,7 +420,8 @@ mod tests {
         };
         // A high bit of the map; a default that is there; bit 3 where it should not be, or not
         // there where it should.
-        assert_eq!(with(0, 0x16), 12);
+        assert_eq!(with(0, 0x26), 12);
+        assert_eq!(with(0, 0x46), 12);
         assert_eq!(with(0, 0x86), 12);
         assert_eq!(with(1, 12), 12);
         assert_eq!(refusal(&[0x01, 0x00], 4), 12);
@@ -366,6 +429,15 @@ mod tests {
         assert_eq!(refusal(&[0x08, 0x00, 0x00], 4), 12);
         assert_eq!(refusal(&[0x01, 0x02], 4), 12);
         assert_eq!(refusal(&[0x09, 0x01, 0x00, 0x00], 4), 12);
+        // A salt of 0, which is its default; of 1 it is one.
+        let mut salt = SALTED;
+        salt[4..12].fill(0);
+        assert_eq!(refusal(&salt, 4), 12);
+        salt[11] = 1;
+        let settings = Settings::new(PLAIN, 4, 1, 0).with_salt(1 << 56);
+        assert_eq!(answer(&salt, 4), Ok(settings));
+        // Some of the cells were taken for a salt, and the others end it early.
+        assert_eq!(with(0, 0x16), 11);
         // The settings.
         assert_eq!(refusal(&[0x01, 0x03], 4), 1);
         assert_eq!(with(1, 3), 2);
@@ -394,15 +466,20 @@ mod tests {
     #[test]
     fn several_faults() {
         // The high bits before the fields that are not there.
-        assert_eq!(refusal(&[0x1f], 0), 12);
+        assert_eq!(refusal(&[0x3f], 0), 12);
+        assert_eq!(refusal(&[0x20], 0), 12);
+        assert_eq!(refusal(&[0x1f], 0), 11);
         // The end of a field before what those ahead of it say.
         assert_eq!(refusal(&[0x03, 0x00], 0), 11);
         assert_eq!(refusal(&[0x07, 0x07, 0x0c, 0xff], 0), 11);
         assert_eq!(refusal(&[0x0f, 0x07, 0x11, 0xff, 0x0f, 0x00], 0), 11);
+        assert_eq!(refusal(&[0x13, 0x07, 0x0c, 0, 0, 0, 0, 0, 0, 0], 0), 11);
         // The other causes of 12 before the settings.
         assert_eq!(refusal(&[0x03, 0x07, 0x0c], 0), 12);
         assert_eq!(refusal(&[0x09, 0x07, 0x00, 0x00], 0), 12);
         assert_eq!(refusal(&[0x06, 0x11, 0xff, 0x0f], 0), 12);
+        assert_eq!(refusal(&[0x13, 0x07, 0x11, 0, 0, 0, 0, 0, 0, 0, 0], 0), 12);
+        assert_eq!(refusal(&[0x13, 0x07, 0x11, 1, 0, 0, 0, 0, 0, 0, 0], 0), 1);
         // The settings in their order, before the table.
         assert_eq!(refusal(&[0x07, 0x07, 0x11, 0x02, 0x00], 0), 1);
         assert_eq!(refusal(&[0x06, 0x11, 0x02, 0x00], 0), 2);

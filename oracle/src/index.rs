@@ -7,7 +7,7 @@ pub const PLAIN: u32 = 0;
 pub const RING: u32 = 1;
 pub const MASKED: u32 = 2;
 
-/// Four numbers as a caller hands them over, good or bad, and as C's struct has them.
+/// Five numbers as a caller hands them over, good or bad, and as C's struct has them.
 #[derive(Clone, Copy, Debug, PartialEq, Eq)]
 #[repr(C)]
 pub struct Settings {
@@ -15,16 +15,24 @@ pub struct Settings {
     pub width: u32,
     pub buckets: u32,
     pub mask: u32,
+    /// Any number is good.
+    pub salt: u64,
 }
 
 impl Settings {
-    pub fn new(rule: u32, width: u32, buckets: u32, mask: u32) -> Self {
+    /// Settings whose salt is 0.
+    pub const fn new(rule: u32, width: u32, buckets: u32, mask: u32) -> Self {
         Settings {
             rule,
             width,
             buckets,
             mask,
+            salt: 0,
         }
+    }
+
+    pub const fn with_salt(self, salt: u64) -> Self {
+        Settings { salt, ..self }
     }
 
     #[inline]
@@ -69,6 +77,13 @@ impl Settings {
         }
     }
 
+    /// The hash of a tag: the salt turns over bits of the start.
+    #[inline]
+    fn tag_hash(self, tag: &[u8]) -> u64 {
+        fnv_from(FNV_START ^ self.salt, tag)
+    }
+
+    /// The offset of a value, which is the same under every salt.
     fn offset_unchecked(self, value: u16) -> u32 {
         self.reduce(fnv1a(&value.to_le_bytes()))
     }
@@ -105,7 +120,7 @@ impl Settings {
         if tag.is_empty() || tag.len() > 64 {
             return Err(7);
         }
-        let hash = fnv1a(tag);
+        let hash = self.tag_hash(tag);
         let fingerprint = (hash & ((1 << self.width) - 1)).max(1) as u16;
         Ok((fingerprint, self.reduce(hash >> 32)))
     }
@@ -138,12 +153,21 @@ impl Candidates {
     }
 }
 
+/// The hash of no bytes.
+pub const FNV_START: u64 = 14_695_981_039_346_656_037;
+
+/// What bytes make of a hash that goes before them.
+#[inline]
+fn fnv_from(start: u64, bytes: &[u8]) -> u64 {
+    bytes.iter().fold(start, |h, &b| {
+        (h ^ u64::from(b)).wrapping_mul(1_099_511_628_211)
+    })
+}
+
 /// The 64-bit FNV-1a hash.
 #[inline]
 pub fn fnv1a(bytes: &[u8]) -> u64 {
-    bytes.iter().fold(14_695_981_039_346_656_037, |h, &b| {
-        (h ^ u64::from(b)).wrapping_mul(1_099_511_628_211)
-    })
+    fnv_from(FNV_START, bytes)
 }
 
 /// The fingerprint and the home bucket of a tag.
@@ -231,6 +255,118 @@ mod tests {
             .unwrap();
         let narrow = Settings::new(PLAIN, 4, 1, 0);
         assert_eq!(entry(narrow, &[zero]), Ok((1, 0)));
+    }
+
+    const DEFAULTS: Settings = Settings::new(PLAIN, 12, 4_096, 0);
+
+    /// Hashes of "a" that were worked out elsewhere, from the start with some of its bits turned over.
+    const SALTED: [(u64, u64); 6] = [
+        (1, 0xaf63_dd4c_8601_ee3f),
+        (1 << 32, 0xaf63_ddff_8601_ec8c),
+        (1 << 63, 0x2f63_dc4c_8601_ec8c),
+        (u64::MAX, 0x509c_22b3_79fe_11c1),
+        (0x0123_4567_89ab_cdef, 0x2c83_44b0_0160_8c91),
+        // From 0: the byte times the prime.
+        (FNV_START, 0x61 * 0x0100_0000_01b3),
+    ];
+
+    #[test]
+    fn salts_go_to_the_start_by_xor() {
+        for (salt, hash) in SALTED {
+            let salted = DEFAULTS.with_salt(salt);
+            assert_eq!(salted.tag_hash(b"a"), hash, "{salt:x}");
+            let low = (hash % 4_096) as u16;
+            assert_eq!(entry(salted, b"a"), Ok((low, (hash >> 32) as u32 % 4_096)));
+        }
+        assert_eq!(entry(DEFAULTS.with_salt(1), b"a"), Ok((0xe3f, 0xd4c)));
+        // A tag whose first byte has the same bit turned over is where the other was.
+        assert_eq!(entry(DEFAULTS.with_salt(1), b"`"), Ok((0xc8c, 0xc4c)));
+    }
+
+    #[test]
+    fn salt_0_is_the_hash_as_it_was() {
+        assert_eq!(Settings::new(PLAIN, 12, 4_096, 0).salt, 0);
+        for known in KNOWN {
+            let bytes = known.bytes();
+            assert_eq!(DEFAULTS.tag_hash(&bytes), known.2, "{:?}", known.0);
+            assert_eq!(DEFAULTS.with_salt(9).with_salt(0).tag_hash(&bytes), known.2);
+        }
+    }
+
+    #[test]
+    fn offsets_and_candidates_have_no_salt() {
+        for (salt, _) in SALTED {
+            assert_eq!(offset(DEFAULTS.with_salt(salt), 3_212), Ok(2_629));
+            for plain in [
+                DEFAULTS,
+                Settings::new(RING, 16, 65_534, 0),
+                Settings::new(MASKED, 4, 1_024, 77),
+            ] {
+                let salted = plain.with_salt(salt);
+                for value in (0..=u16::MAX).step_by(97) {
+                    assert_eq!(offset(salted, value), offset(plain, value));
+                    assert_eq!(candidates(salted, value, 3), candidates(plain, value, 3));
+                }
+            }
+        }
+    }
+
+    #[test]
+    fn no_salt_is_refused_and_none_mends_a_fault() {
+        for (salt, _) in SALTED {
+            assert_eq!(DEFAULTS.with_salt(salt).check(), Ok(()));
+            let bad = Settings::new(3, 3, 0, 1).with_salt(salt);
+            assert_eq!(bad.check(), Err(1));
+            assert_eq!(entry(DEFAULTS.with_salt(salt), &[]), Err(7));
+            assert_eq!(entry(DEFAULTS.with_salt(salt), &[0; 65]), Err(7));
+        }
+    }
+
+    /// No bit of a hash comes from a higher one. So of a salt the low w bits alone decide the
+    /// fingerprint, and where the count is a power of two those from 48 on change nothing.
+    #[test]
+    fn high_bits_of_a_salt() {
+        for byte in 0..=u8::MAX {
+            let tag = [byte, 7, byte ^ 0x55];
+            let (fingerprint, home) = entry(DEFAULTS, &tag).unwrap();
+            let salted = |salt| entry(DEFAULTS.with_salt(salt), &tag).unwrap();
+            assert_eq!(salted(0xffff_ffff_ffff_f000).0, fingerprint);
+            assert_ne!(salted(1 << 11).0, fingerprint);
+            assert_eq!(salted(1 << 43), (fingerprint, home ^ 1 << 11));
+            assert_eq!(salted(0xffff << 48), (fingerprint, home));
+        }
+    }
+
+    /// Salts that agree in their low eight bits move the hashes of all tags of one length by the same
+    /// number, so that tags with one fingerprint stay together: a season's salt should differ there.
+    #[test]
+    fn salts_with_one_low_byte() {
+        let moved = |from: u64, to: u64, tag: &[u8]| {
+            let hash = |salt| DEFAULTS.with_salt(salt).tag_hash(tag);
+            hash(to).wrapping_sub(hash(from))
+        };
+        let tags: Vec<String> = (0..1_000).map(|i| format!("UK {:012}", i * i)).collect();
+        for (from, to) in [
+            (0, 256),
+            (0, 0x0123_4567_89ab_cd00),
+            (7, 0xff00_0000_0000_1207),
+        ] {
+            let by = moved(from, to, tags[0].as_bytes());
+            assert!(tags.iter().all(|tag| moved(from, to, tag.as_bytes()) == by));
+        }
+        for (from, to) in [(0, 1), (0, 0x0123_4567_89ab_cdef), (7, 6)] {
+            let by = moved(from, to, tags[0].as_bytes());
+            assert!(tags.iter().any(|tag| moved(from, to, tag.as_bytes()) != by));
+        }
+    }
+
+    #[cfg(target_endian = "little")]
+    #[test]
+    fn laid_out_as_in_c() {
+        let s = Settings::new(1, 2, 3, 4).with_salt(6 << 32 | 5);
+        // As many bytes as six words, or this does not compile.
+        let words: [u32; 6] = unsafe { std::mem::transmute(s) };
+        assert_eq!(words, [1, 2, 3, 4, 5, 6]);
     }
 
     #[test]

@@ -1,6 +1,6 @@
 //! What the programs that write and answer requests have in common.
 
-use crate::index::{Answer, Settings};
+use crate::index::{Answer, Settings, FNV_START};
 use std::io::{self, BufRead, Write};
 
 /// A fixed sequence of numbers without a pattern (splitmix64).
@@ -29,9 +29,37 @@ impl Mix {
     }
 }
 
+/// Settings as a request names them: the salt last, in hexadecimal digits.
 pub fn numbers(s: Settings) -> String {
-    format!("{} {} {} {}", s.rule, s.width, s.buckets, s.mask)
+    let Settings {
+        rule,
+        width,
+        buckets,
+        mask,
+        salt,
+    } = s;
+    format!("{rule} {width} {buckets} {mask} {salt:x}")
 }
+
+/// The settings that the fields of a request from the second on name.
+pub fn settings(fields: &[&str]) -> Settings {
+    let number = |i: usize| -> u32 { fields[i].parse().expect("a number") };
+    let salt = u64::from_str_radix(fields[5], 16).expect("hexadecimal digits");
+    Settings::new(number(1), number(2), number(3), number(4)).with_salt(salt)
+}
+
+/// Salts of one bit, of all bits, the start of the hash, which makes it 0, and some of any bits.
+pub const SALTS: [u64; 9] = [
+    1,
+    1 << 32,
+    1 << 63,
+    u64::MAX,
+    FNV_START,
+    0x0123_4567_89ab_cdef,
+    2_027,
+    0xffff_ffff,
+    0xd6e8_feb8_6659_fd93,
+];
 
 pub fn to_hex(bytes: &[u8]) -> String {
     bytes.iter().map(|b| format!("{b:02x}")).collect()

@@ -26,6 +26,14 @@ fn file_of(s: Settings, table: &[u16]) -> Vec<u8> {
         map += 8;
         fields.extend([(s.mask % 256) as u8, (s.mask / 256) as u8]);
     }
+    if s.salt != 0 {
+        map += 16;
+        let mut salt = s.salt;
+        for _ in 0..8 {
+            fields.push((salt % 256) as u8);
+            salt /= 256;
+        }
+    }
     let mut bytes = vec![map];
     bytes.append(&mut fields);
     for cells in table.chunks(4) {
@@ -49,15 +57,23 @@ impl Bytes<'_> {
     fn two(&mut self) -> Answer<u32> {
         Ok(self.one()? + 256 * self.one()?)
     }
+
+    fn eight(&mut self) -> Answer<u64> {
+        let mut number = 0;
+        for i in 0..8 {
+            number += u64::from(self.one()?) << (8 * i);
+        }
+        Ok(number)
+    }
 }
 
 fn settings_and_cells(bytes: &[u8], cells: usize) -> Answer<(Settings, Vec<u16>)> {
     let mut bytes = Bytes(bytes.iter());
     let map = bytes.one()?;
-    if map > 15 {
+    if map > 31 {
         return Err(12);
     }
-    let bits = [0, 1, 2, 3].map(|i| map >> i & 1 == 1);
+    let bits = [0, 1, 2, 3, 4].map(|i| map >> i & 1 == 1);
     let mut s = Settings::new(0, 12, 4_096, 0);
     if bits[0] {
         s.rule = bytes.one()?;
@@ -71,10 +87,16 @@ fn settings_and_cells(bytes: &[u8], cells: usize) -> Answer<(Settings, Vec<u16>)
     if bits[3] {
         s.mask = bytes.two()?;
     }
+    if bits[4] {
+        s.salt = bytes.eight()?;
+    }
     if bits[0] && s.rule == 0 || bits[1] && s.width == 12 || bits[2] && s.buckets == 4_096 {
         return Err(12);
     }
     if bits[3] && s.rule != 2 || !bits[3] && s.rule == 2 {
+        return Err(12);
+    }
+    if bits[4] && s.salt == 0 {
         return Err(12);
     }
     s.check()?;
@@ -170,16 +192,26 @@ fn buckets_of(s: Settings, bytes: &[u8], rows: &[[u16; 4]]) -> Answer<Vec<u16>> 
     Ok(table)
 }
 
+/// No salt, one of a single bit, or any.
+fn salt(mix: &mut Mix) -> u64 {
+    match mix.below(4) {
+        0 | 1 => 0,
+        2 => 1 << mix.below(64),
+        _ => mix.draw(),
+    }
+}
+
 fn settings(mix: &mut Mix) -> Settings {
     let width = 4 + mix.below(13);
-    match mix.below(3) {
+    let s = match mix.below(3) {
         0 => Settings::new(PLAIN, width, 1 << mix.below(6), 0),
         1 => Settings::new(RING, width, 2 + 2 * mix.below(20), 0),
         _ => {
             let buckets = 1 << mix.below(6);
             Settings::new(MASKED, width, buckets, mix.below(buckets.into()))
         }
-    }
+    };
+    s.with_salt(salt(mix))
 }
 
 fn cells(s: Settings, mix: &mut Mix) -> Vec<u16> {
@@ -206,7 +238,7 @@ fn damage(bytes: &mut Vec<u8>, mix: &mut Mix) {
             0 => bytes.truncate(mix.below(n + 1) as usize),
             1 => bytes.push(mix.draw() as u8),
             // The head of a file is short, and its faults are many.
-            2 if n > 0 => bytes[mix.below(n.min(8)) as usize] = mix.below(18) as u8,
+            2 if n > 0 => bytes[mix.below(n.min(8)) as usize] = mix.below(34) as u8,
             3 if n > 0 => bytes[mix.below(n) as usize] ^= 1 << mix.below(8),
             _ if n > 0 => bytes[mix.below(n) as usize] = mix.draw() as u8,
             _ => {}
@@ -218,6 +250,7 @@ fn damage(bytes: &mut Vec<u8>, mix: &mut Mix) {
 fn files() {
     let mut mix = Mix(21);
     let mut seen = [0; 21];
+    let mut salted = 0;
     for _ in 0..60_000 {
         let s = settings(&mut mix);
         let table = cells(s, &mut mix);
@@ -234,6 +267,7 @@ fn files() {
                 assert_eq!(answer, Ok(s));
                 assert_eq!(back, table);
                 seen[0] += 1;
+                salted += u32::from(s.salt != 0);
             }
             Err(number) => {
                 assert_eq!(answer, Err(number), "{bytes:?}");
@@ -245,6 +279,7 @@ fn files() {
     for number in [0, 1, 2, 3, 4, 5, 11, 12, 13, 14, 15] {
         assert!(seen[number] > 100, "{seen:?}");
     }
+    assert!(salted > 1_000, "{salted}");
 }
 
 #[test]
@@ -286,10 +321,33 @@ fn packed_forms() {
     }
 }
 
+/// The packed form of a table is the same under every salt, and is read under every salt.
+#[test]
+fn packed_forms_have_no_salt() {
+    let mut mix = Mix(30);
+    for _ in 0..2_000 {
+        let s = settings(&mut mix).with_salt(0);
+        let table = cells(s, &mut mix);
+        let mut plain = vec![0; 8 * s.buckets as usize];
+        let length = packed::write(s, &table, &mut plain).unwrap();
+        let mut back = table.clone();
+        let filled = packed::read(s, &plain[..length], &mut back);
+        for salt in [1, mix.draw()] {
+            let salted = s.with_salt(salt);
+            let mut out = vec![0; plain.len()];
+            assert_eq!(packed::write(salted, &table, &mut out), Ok(length));
+            assert_eq!(out, plain);
+            let mut other = vec![0xabcd; table.len()];
+            assert_eq!(packed::read(salted, &plain[..length], &mut other), filled);
+            assert_eq!(other, back);
+        }
+    }
+}
+
 /// The fast and the branch-free forms held to the plain ones: every answer, and everything that was lent.
 #[cfg(target_arch = "x86_64")]
 mod fast_forms {
-    use super::{cells, rows, settings};
+    use super::{cells, rows, salt, settings};
     use oracle::fast;
     use oracle::index::{Answer, Settings, MASKED, PLAIN, RING};
     use oracle::requests::Mix;
@@ -388,7 +446,7 @@ mod fast_forms {
     /// One table through the four calls, with everything that can be wrong.
     fn compare(s: Settings, table: &[u16], mix: &mut Mix, times: usize, seen: &mut [Seen; 4]) {
         let [file_out, file_in, packed_out, packed_in] = seen;
-        let most = mix.bytes(7 + 9 * s.buckets as usize);
+        let most = mix.bytes(holdfile::HEAD + 9 * s.buckets as usize);
         let file = file_write(s, table, &most, file_out);
         let form = packed_write(s, table, &most, packed_out);
         assert!(!file.is_empty() && !form.is_empty(), "{s:?}");
@@ -488,6 +546,7 @@ mod fast_forms {
                 Settings::new(RING, width, 1_022 + 2 * mix.below(2_000), 0),
                 Settings::new(MASKED, width, 2_048, mix.below(2_048)),
             ] {
+                let s = s.with_salt(salt(&mut mix));
                 // From a table that is full, or nearly so, to an empty one, in which a part of the
                 // file has many more buckets than another.
                 for load in [100, 95, 50, 3, 0] {
@@ -515,6 +574,7 @@ mod fast_forms {
             Settings::new(PLAIN, 12, 65_536, 0),
             Settings::new(RING, 13, 65_534, 0),
             Settings::new(MASKED, 4, 65_536, 0xff),
+            Settings::new(MASKED, 11, 65_536, 0xff).with_salt(u64::MAX),
         ] {
             for load in [100, 50, 0] {
                 let table: Vec<u16> = (0..4 * s.buckets)
@@ -543,7 +603,7 @@ mod fast_forms {
                     let table: Vec<u16> = (0..4 * buckets)
                         .map(|i| cell * (filled >> (i % 4) & 1))
                         .collect();
-                    let mut out = vec![0; 7 + 9 * buckets as usize];
+                    let mut out = vec![0; holdfile::HEAD + 9 * buckets as usize];
                     let length = holdfile::write(s, &table, &mut out).unwrap();
                     for bytes in damaged(&out[..length], &mut mix, 1) {
                         file_read(&bytes, table.len(), &mut seen);

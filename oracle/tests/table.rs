@@ -196,6 +196,15 @@ fn small_settings() -> Vec<Settings> {
     all
 }
 
+/// Every other round has a salt.
+fn salted(settings: Settings, round: u32, mix: &mut Mix) -> Settings {
+    match round % 4 {
+        1 => settings.with_salt(1 << mix.below(64)),
+        3 => settings.with_salt(mix.draw()),
+        _ => settings,
+    }
+}
+
 #[test]
 fn one_bucket_takes_four() {
     let settings = Settings::new(PLAIN, 12, 1, 0);
@@ -221,7 +230,9 @@ fn histories() {
     let mut mix = Mix(3);
     let (mut longest, mut full) = (0, 0);
     for settings in small_settings() {
-        for round in 0..6 {
+        // Each kind of tags, with a salt and without.
+        for round in 0..12 {
+            let settings = salted(settings, round / 3, &mut mix);
             let mut pair = Pair::new(settings);
             let cells = 4 * settings.buckets;
             // Few kinds of tags make many repeats, and many fill the table evenly.
@@ -269,7 +280,8 @@ fn searches_over_any_cells() {
     let mut mix = Mix(4);
     let (mut longest, mut full) = (0, 0);
     for settings in small_settings() {
-        for round in 0..60 {
+        for round in 0..120 {
+            let settings = salted(settings, round / 6, &mut mix);
             let cells = 4 * settings.buckets as usize;
             let mut table: Vec<u16> = (0..cells).map(|_| (mix.draw() as u16).max(1)).collect();
             for _ in 0..mix.below(4) {
@@ -303,6 +315,7 @@ fn large_tables() {
         Settings::new(PLAIN, 16, 1_024, 0),
         Settings::new(RING, 12, 1_022, 0),
         Settings::new(MASKED, 12, 1_024, 0x155),
+        Settings::new(RING, 12, 1_022, 0).with_salt(0x0123_4567_89ab_cdef),
     ] {
         let mut mix = Mix(5);
         let mut table = cleared(settings);
@@ -372,7 +385,8 @@ fn copies_in_any_table() {
     let mut mix = Mix(8);
     let (mut coinciding, mut most) = (0, 0);
     for settings in small_settings() {
-        for _ in 0..40 {
+        for round in 0..80 {
+            let settings = salted(settings, round, &mut mix);
             let tag = mix.bytes(3);
             let (fingerprint, home) = index::entry(settings, &tag).unwrap();
             let candidates = index::candidates(settings, fingerprint, home).unwrap();
@@ -395,6 +409,53 @@ fn copies_in_any_table() {
     }
     assert!(coinciding > 100, "{coinciding}");
     assert!(most > 8, "{most}");
+}
+
+/// What the salt is for: a clear tag that reads held under one salt does not under another, but by
+/// chance. Salts that agree in the low eight bits are of little use. And a table that is looked at
+/// with another salt is another list.
+#[test]
+fn other_salts_have_other_unlucky_tags() {
+    let plain = Settings::new(PLAIN, 8, 4_096, 0);
+    let herd: Vec<String> = (0..40_000)
+        .map(|i| format!("UK {} {:05}", 639_951 + i / 2_000, i % 2_000))
+        .collect();
+    // Every seventh is held.
+    let held = || herd.iter().step_by(7);
+    let unlucky = |salt: u64| -> HashSet<usize> {
+        let settings = plain.with_salt(salt);
+        let mut table = cleared(settings);
+        let mut scratch = vec![0; 2 * 4_096];
+        for tag in held() {
+            let answer = hold(settings, &mut table, &mut scratch, tag.as_bytes());
+            assert!(answer.is_ok(), "{salt:x}: {tag}");
+        }
+        let reads =
+            |salt, tag: &str| lookup(plain.with_salt(salt), &table, tag.as_bytes()).unwrap() > 0;
+        assert!(held().all(|tag| reads(salt, tag)));
+        let found = held().filter(|tag| reads(salt ^ 0x5a, tag)).count();
+        assert!(10 * found < held().count(), "{salt:x}: {found}");
+        let clear = (0..herd.len()).filter(|i| i % 7 != 0);
+        clear.filter(|&i| reads(salt, &herd[i])).collect()
+    };
+    let first = unlucky(0);
+    assert!(first.len() > 500, "{}", first.len());
+    for salt in [1, 2, 3, 2_027, 0x9e37_79b9_7f4a_7c15, u64::MAX] {
+        let both = unlucky(salt).intersection(&first).count();
+        assert!(
+            10 * both < first.len(),
+            "{salt:x}: {both} of {}",
+            first.len()
+        );
+    }
+    for salt in [0x100, 1 << 32] {
+        let both = unlucky(salt).intersection(&first).count();
+        assert!(
+            2 * both > first.len(),
+            "{salt:x}: {both} of {}",
+            first.len()
+        );
+    }
 }
 
 #[test]

@@ -218,12 +218,16 @@ impl HoldList {
     /// // the default settings, and a byte for each empty bucket
     /// assert_eq!(HoldList::default().save(), vec![0; 1 + 4096]);
     /// // width and bucket count are not the default
-    /// assert_eq!(HoldList::new(Settings::plain(4, 1))?.save(), [6, 4, 0, 0, 0]);
+    /// let small = Settings::plain(4, 1);
+    /// assert_eq!(HoldList::new(small)?.save(), [6, 4, 0, 0, 0]);
+    /// // nor is the salt, which takes eight bytes
+    /// let salted = HoldList::new(small.with_salt(2027))?;
+    /// assert_eq!(salted.save(), [0x16, 4, 0, 0, 0xeb, 0x07, 0, 0, 0, 0, 0, 0, 0]);
     /// # Ok::<(), holdlist::Refusal>(())
     /// ```
     pub fn save(&self) -> Vec<u8> {
-        // the map and four fields take at most 7 bytes, a bucket its byte, and an entry two
-        let mut out = vec![0; 7 + self.settings.buckets as usize + 2 * self.entries];
+        // the map and five fields take at most 15 bytes, a bucket its byte, and an entry two
+        let mut out = vec![0; 15 + self.settings.buckets as usize + 2 * self.entries];
         let count = sure(raw::file_write(&self.settings, &self.table, &mut out));
         out.truncate(count);
         out
@@ -252,7 +256,8 @@ impl HoldList {
         Ok(HoldList::of(settings, table, entries))
     }
 
-    /// The list in its packed form, which leaves out the settings and the order within a bucket.
+    /// The list in its packed form, which leaves out the settings, the salt among them, and the order
+    /// within a bucket.
     ///
     /// ```
     /// use holdlist::HoldList;

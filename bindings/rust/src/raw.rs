@@ -97,8 +97,10 @@ mod c {
     }
 }
 
-/// The library takes settings as four 32-bit numbers in a row.
-const _: () = assert!(size_of::<Settings>() == 4 * size_of::<u32>());
+/// The library takes settings as six 32-bit numbers in a row, of which the last two are the salt, its
+/// low half first.
+const _: () =
+    assert!(size_of::<Settings>() == 6 * size_of::<u32>() && cfg!(target_endian = "little"));
 
 /// A call with settings, which are lent where they stand, and the pointers and counts of slices.
 /// SAFETY: as the module says.
@@ -366,17 +368,20 @@ mod tests {
             width: 8,
             buckets: 8,
             mask: 8,
+            salt: 8,
         };
-        // the bytes end early; the map; each of the settings
-        let bad: [&[u8]; 6] = [
+        // the bytes end early; the map; a salt that is cut or 0; each of the settings
+        let bad: [&[u8]; 8] = [
             &[6, 4, 0],
-            &[0x10],
+            &[0x20],
+            &[0x10, 1, 0, 0, 0, 0, 0, 0],
+            &[0x10, 0, 0, 0, 0, 0, 0, 0, 0],
             &[7, 3, 4, 0, 0],
             &[6, 3, 0, 0],
             &[6, 4, 2, 0],
             &[15, 2, 4, 0, 0, 1, 0],
         ];
-        for (bytes, number) in bad.into_iter().zip([11, 12, 1, 2, 3, 4]) {
+        for (bytes, number) in bad.into_iter().zip([11, 12, 11, 12, 1, 2, 3, 4]) {
             let mut settings = before;
             let mut table = [1u16; 4];
             // SAFETY: as the module says
@@ -398,6 +403,29 @@ mod tests {
                 (-number, before, [1; 4]),
                 "{bytes:02x?}"
             );
+        }
+    }
+
+    #[test]
+    fn the_salt_is_where_the_library_looks_for_it() {
+        let bytes = [0x16, 4, 0, 0, 1, 2, 3, 4, 5, 6, 7, 8, 0x0a, 9, 0, 3, 0];
+        let salt = 0x0807_0605_0403_0201;
+        let mut table = [7; 4];
+        assert_eq!(file_settings(&bytes), Ok(S.with_salt(salt)));
+        assert_eq!(file_read(&bytes, &mut table), Ok(S.with_salt(salt)));
+        let mut out = [0xee; 18];
+        assert_eq!(file_write(&S.with_salt(salt), &table, &mut out), Ok(17));
+        assert_eq!((&out[..17], out[17]), (&bytes[..], 0xee));
+        // "a" under the salts 1 and 2^32, each of which is one of the two words
+        let default = Settings::default();
+        for (salt, entry) in [
+            (0, (0xc8c, 0xc4c)),
+            (1, (0xe3f, 0xd4c)),
+            (1 << 32, (0xc8c, 0xdff)),
+        ] {
+            let s = default.with_salt(salt);
+            let found = (fingerprint(&s, b"a"), home(&s, b"a"));
+            assert_eq!(found, (Ok(entry.0), Ok(entry.1)), "{salt:x}");
         }
     }
 

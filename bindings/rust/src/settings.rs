@@ -6,7 +6,8 @@ use crate::{raw, Refusal};
 /// ```
 /// use holdlist::{Refusal, Settings};
 ///
-/// assert_eq!(Settings::default(), Settings { rule: 0, width: 12, buckets: 4096, mask: 0 });
+/// let default = Settings { rule: 0, width: 12, buckets: 4096, mask: 0, salt: 0 };
+/// assert_eq!(Settings::default(), default);
 /// assert_eq!(Settings::ring(12, 6).check(), Ok(()));
 /// assert_eq!(Settings::plain(12, 6).check(), Err(Refusal::Buckets));
 /// assert_eq!(Settings::masked(12, 16, 16).check(), Err(Refusal::Mask));
@@ -22,6 +23,8 @@ pub struct Settings {
     pub buckets: u32,
     /// Below the number of buckets under rule 2, and 0 under the others.
     pub mask: u32,
+    /// Any number: see [`Settings::with_salt`].
+    pub salt: u64,
 }
 
 impl Default for Settings {
@@ -38,6 +41,7 @@ impl Settings {
             width,
             buckets,
             mask: 0,
+            salt: 0,
         }
     }
 
@@ -48,6 +52,7 @@ impl Settings {
             width,
             buckets,
             mask: 0,
+            salt: 0,
         }
     }
 
@@ -58,7 +63,45 @@ impl Settings {
             width,
             buckets,
             mask,
+            salt: 0,
         }
+    }
+
+    /// The same settings with a salt, which is put by exclusive or to the start of the hash of every
+    /// tag. Every number passes; 0 is the default.
+    ///
+    /// A clear tag that shares fingerprint and candidates with a held one reads held. Under one salt
+    /// the same unlucky tags do so all year. Under another others do, so each season's list can have
+    /// a salt of its own. Let salts differ in their low eight bits, as 1, 2, 3 do: salts that agree
+    /// there move the hashes of all tags of one length by the same number, and many of the unlucky
+    /// tags stay unlucky.
+    ///
+    /// Lists of different salts are different lists: a tag is found with the salt that it was held
+    /// with. [`HoldList::save`] writes the salt with the other settings; the packed form of
+    /// [`HoldList::pack`] has none of them, so [`HoldList::unpack`] has to be told.
+    ///
+    /// ```
+    /// use holdlist::{HoldList, Settings};
+    ///
+    /// let last = Settings::ring(12, 1000);
+    /// let this = last.with_salt(2027);
+    /// assert_ne!(last.fingerprint("gate 4, ewe 17")?, this.fingerprint("gate 4, ewe 17")?);
+    ///
+    /// let mut list = HoldList::new(this)?;
+    /// list.hold("gate 4, ewe 17")?;
+    /// let copy = HoldList::load(&list.save())?;
+    /// assert_eq!(copy.settings().salt, 2027);
+    /// assert!(HoldList::unpack(this, &list.pack())?.is_held("gate 4, ewe 17")?);
+    /// // with the salt of another list the tag is not found
+    /// assert!(!HoldList::unpack(last, &list.pack())?.is_held("gate 4, ewe 17")?);
+    /// # Ok::<(), holdlist::Refusal>(())
+    /// ```
+    ///
+    /// [`HoldList::save`]: crate::HoldList::save
+    /// [`HoldList::pack`]: crate::HoldList::pack
+    /// [`HoldList::unpack`]: crate::HoldList::unpack
+    pub const fn with_salt(self, salt: u64) -> Settings {
+        Settings { salt, ..self }
     }
 
     /// The settings that a hold file names: they pass. It looks at the file's header alone, so that
@@ -104,7 +147,8 @@ impl Settings {
         raw::home(&self, tag.as_ref())
     }
 
-    /// The offset by which the candidates of a fingerprint lie apart. Any 16-bit value has one.
+    /// The offset by which the candidates of a fingerprint lie apart. Any 16-bit value has one, and it
+    /// is the same under every salt.
     ///
     /// # Errors
     /// As [`Settings::check`].

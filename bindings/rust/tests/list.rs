@@ -35,6 +35,8 @@ fn finds_all(list: &HoldList, tags: usize) -> bool {
     (0..tags).all(|i| list.is_held(tag(i)).unwrap())
 }
 
+const SALTS: [u64; 5] = [1, 2_027, 1 << 32, 1 << 63, u64::MAX];
+
 // ── refusals ──
 
 #[test]
@@ -81,6 +83,7 @@ fn settings_are_refused_with_1_to_4_in_this_order() {
         width,
         buckets,
         mask,
+        salt: 0,
     };
     let cases = [
         (settings(3, 3, 0, 1), Refusal::Rule),
@@ -107,6 +110,8 @@ fn settings_are_refused_with_1_to_4_in_this_order() {
         assert_eq!(s.home(""), Err(refusal), "{s:?}");
         assert_eq!(s.offset(0), Err(refusal), "{s:?}");
         assert_eq!(s.candidates(0, u32::MAX), Err(refusal), "{s:?}");
+        // no salt mends it
+        assert_eq!(s.with_salt(u64::MAX).check(), Err(refusal), "{s:?}");
     }
     let good = [
         (0, 4, 1, 0),
@@ -117,7 +122,11 @@ fn settings_are_refused_with_1_to_4_in_this_order() {
         (2, 12, 16, 15),
     ];
     for (rule, width, buckets, mask) in good {
-        assert_eq!(settings(rule, width, buckets, mask).check(), Ok(()));
+        let s = settings(rule, width, buckets, mask);
+        assert_eq!(s.check(), Ok(()));
+        for salt in SALTS {
+            assert_eq!(s.with_salt(salt).check(), Ok(()), "{salt:x}");
+        }
     }
 }
 
@@ -183,19 +192,24 @@ fn a_full_list_is_refused_with_9_and_stays() {
 #[test]
 fn a_damaged_hold_file_is_refused_with_its_number() {
     use Refusal::*;
-    let cases: [(&[u8], Refusal); 24] = [
+    let cases: [(&[u8], Refusal); 29] = [
         (&[], Short),
-        (&[0x10], Map), // a map bit above 3
+        (&[0x20], Map), // a map bit above 4
+        (&[0x46, 4, 0, 0, 0], Map),
         (&[0xf6, 4, 0, 0, 0], Map),
-        (&[0x07], Short),                 // the rule
-        (&[0x06, 4], Short),              // the bucket count
-        (&[0x06, 4, 0], Short),           // its second byte
-        (&[0x0f, 2, 4, 0, 0, 0], Short),  // the mask's second byte
-        (&[0x05, 0, 0, 0, 0], Map),       // rule 0 is the default
-        (&[0x06, 12, 0, 0, 0], Map),      // so is width 12
-        (&[0x06, 4, 0xff, 0x0f, 0], Map), // and 4096 buckets
-        (&[0x0e, 4, 0, 0, 0, 0, 0], Map), // a mask under rule 0
-        (&[0x07, 2, 4, 0, 0, 0], Map),    // none under rule 2
+        (&[0x10], Short),                                   // the salt
+        (&[0x16, 4, 0, 0, 1, 0, 0, 0, 0, 0, 0], Short),     // its last byte
+        (&[0x16, 12, 0, 0, 0, 0, 0, 0, 0, 0, 0], Short),    // before what is wrong ahead of it
+        (&[0x16, 4, 0, 0, 0, 0, 0, 0, 0, 0, 0, 0, 0], Map), // salt 0 is the default
+        (&[0x07], Short),                                   // the rule
+        (&[0x06, 4], Short),                                // the bucket count
+        (&[0x06, 4, 0], Short),                             // its second byte
+        (&[0x0f, 2, 4, 0, 0, 0], Short),                    // the mask's second byte
+        (&[0x05, 0, 0, 0, 0], Map),                         // rule 0 is the default
+        (&[0x06, 12, 0, 0, 0], Map),                        // so is width 12
+        (&[0x06, 4, 0xff, 0x0f, 0], Map),                   // and 4096 buckets
+        (&[0x0e, 4, 0, 0, 0, 0, 0], Map),                   // a mask under rule 0
+        (&[0x07, 2, 4, 0, 0, 0], Map),                      // none under rule 2
         (&[0x07, 3, 4, 0, 0, 0], Rule),
         (&[0x06, 3, 0, 0, 0], Width),
         (&[0x06, 4, 2, 0, 0, 0, 0], Buckets), // three
@@ -212,11 +226,11 @@ fn a_damaged_hold_file_is_refused_with_its_number() {
     for (bytes, refusal) in cases {
         assert_eq!(HoldList::load(bytes), Err(refusal), "{bytes:02x?}");
     }
-    // the first seventeen by the header, which the others pass
+    // the first twenty-two by the header, which the others pass
     for (i, (bytes, refusal)) in cases.into_iter().enumerate() {
         match Settings::of_file(bytes) {
-            Ok(s) => assert!(i >= 17 && s.check() == Ok(()), "{bytes:02x?}"),
-            Err(r) => assert!(i < 17 && r == refusal, "{bytes:02x?}"),
+            Ok(s) => assert!(i >= 22 && s.check() == Ok(()), "{bytes:02x?}"),
+            Err(r) => assert!(i < 22 && r == refusal, "{bytes:02x?}"),
         }
     }
 }
@@ -322,6 +336,9 @@ fn a_saved_list_is_read_back() {
         Settings::masked(9, 32, 21),
         Settings::masked(12, 4096, 0),
         Settings::masked(12, 4096, 4095),
+        Settings::default().with_salt(1),
+        Settings::ring(5, 10).with_salt(u64::MAX),
+        Settings::masked(9, 32, 21).with_salt(0x0123_4567_89ab_cdef),
     ];
     for s in all {
         for tags in [0, 1, s.buckets as usize * 2] {
@@ -351,6 +368,7 @@ fn a_packed_list_is_read_back_with_its_buckets_sorted() {
             Settings::plain(width, 32),
             Settings::ring(width, 10),
             Settings::masked(width, 16, 3),
+            Settings::ring(width, 10).with_salt(2_027),
         ] {
             let list = list_of(s, s.buckets as usize * 2);
             let bytes = list.pack();
@@ -383,6 +401,90 @@ fn a_list_goes_on_after_it_is_read_back() {
     }
     assert_eq!(list, copy);
     assert_eq!(list.len(), copy.len());
+}
+
+// ── salts ──
+
+#[test]
+fn salt_0_is_no_salt() {
+    for s in [
+        Settings::default(),
+        Settings::ring(12, 10),
+        Settings::masked(8, 16, 5),
+    ] {
+        assert_eq!((s.salt, s.with_salt(0)), (0, s));
+        assert_eq!(s.with_salt(9).with_salt(0), s);
+    }
+    // "a" hashes to af63dc4c8601ec8c, and from the start with its lowest bit turned over to af63dd4c8601ee3f
+    let s = Settings::default();
+    assert_eq!((s.fingerprint("a"), s.home("a")), (Ok(0xc8c), Ok(0xc4c)));
+    let s = s.with_salt(1);
+    assert_eq!((s.fingerprint("a"), s.home("a")), (Ok(0xe3f), Ok(0xd4c)));
+}
+
+#[test]
+fn a_salt_turns_over_bits_of_the_start() {
+    // those of its low byte are the same in the first byte of a tag
+    let s = Settings::ring(16, 1000);
+    for salt in SALTS {
+        for (i, x) in (1..=255u8).enumerate() {
+            let mut other = tag(i).into_bytes();
+            other[0] ^= x;
+            let (s, t) = (s.with_salt(salt), s.with_salt(salt ^ u64::from(x)));
+            assert_eq!(t.fingerprint(tag(i)), s.fingerprint(&other));
+            assert_eq!(t.home(tag(i)), s.home(&other));
+        }
+    }
+}
+
+#[test]
+fn a_salt_changes_no_offset_and_no_candidate() {
+    for s in [
+        Settings::plain(12, 64),
+        Settings::ring(12, 10),
+        Settings::masked(12, 16, 12),
+    ] {
+        for salt in SALTS {
+            for p in (0..u16::MAX).step_by(411) {
+                assert_eq!(s.with_salt(salt).offset(p), s.offset(p));
+                assert_eq!(s.with_salt(salt).candidates(p, 3), s.candidates(p, 3));
+            }
+        }
+    }
+}
+
+#[test]
+fn lists_of_different_salts_are_different_lists() {
+    let s = Settings::ring(12, 1000);
+    let plain = list_of(s, 3000);
+    for salt in [2_027, 0x0123_4567_89ab_cdef, u64::MAX] {
+        let list = list_of(s.with_salt(salt), 3000);
+        assert_ne!(list, plain);
+        // with the salt of another list these tags are found by chance alone
+        let mistaken = HoldList::unpack(s, &list.pack()).unwrap();
+        let found = (0..3000).filter(|&i| mistaken.is_held(tag(i)).unwrap());
+        assert!(found.count() < 100, "{salt:x}");
+        let again = HoldList::unpack(s.with_salt(salt), &list.pack()).unwrap();
+        assert!(finds_all(&again, 3000));
+        // empty lists with the same cells are not equal either
+        assert_ne!(HoldList::new(s), HoldList::new(s.with_salt(salt)));
+    }
+}
+
+#[test]
+fn the_salt_travels_in_the_hold_file_and_not_in_the_packed_form() {
+    let bytes = [
+        0x16, 4, 0, 0, 0xef, 0xcd, 0xab, 0x89, 0x67, 0x45, 0x23, 0x01, 0x0a, 9, 0, 3, 0,
+    ];
+    let s = Settings::plain(4, 1).with_salt(0x0123_4567_89ab_cdef);
+    assert_eq!(Settings::of_file(&bytes), Ok(s));
+    let list = HoldList::load(&bytes).unwrap();
+    assert_eq!((list.settings(), list.cells()), (s, &[0u16, 9, 0, 3][..]));
+    assert_eq!(list.save(), bytes);
+    // eight bytes and a bit of the map, beside a list without
+    let plain = HoldList::load(&[0x06, 4, 0, 0, 0x0a, 9, 0, 3, 0]).unwrap();
+    assert_eq!(plain.save().len() + 8, bytes.len());
+    assert_eq!(list.pack(), plain.pack());
 }
 
 // ── sizes at the limit ──

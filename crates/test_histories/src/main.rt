@@ -1,7 +1,7 @@
 // Answers requests on the table. Each line of standard input is a request, and is written to
 // standard output with " = " and the answer after it. A request acts on what those before it left:
 //
-//     open RULE WIDTH BUCKETS MASK CELLS WORDS    the settings, and how much the next calls lend
+//     open RULE WIDTH BUCKETS MASK SALT CELLS WORDS   the settings, and how much the next calls lend
 //     dirt VALUE                  scratch becomes VALUE, VALUE + 1, .. modulo 2^32
 //     set CELL VALUE              one cell, as it is
 //     clear
@@ -13,6 +13,8 @@
 //     releases SEED COUNT
 //     lookups SEED COUNT
 //     cells                       all cells that are lent, or their hash where they are many
+//
+// SALT is in hexadecimal digits.
 use libc::STDIN_FILENO;
 use libc::STDOUT_FILENO;
 ghost use mathlib.Core.Path.{_≡_};
@@ -88,16 +90,19 @@ fn digit(b: u8) -> u8 {
     }
 }
 
-// n with one more decimal digit. A number past 32 bits stays as it is, so that none wraps.
-fn with_digit(n: u64, b: u8) -> u64 {
-    if n > 4294967295 {
+// n with one more digit. A decimal number past 32 bits stays as it is, so that none wraps; of more than sixteen
+// hexadecimal digits the last ones count.
+fn with_digit(n: u64, b: u8, hexadecimal: bool) -> u64 {
+    if hexadecimal {
+        n << 4 | digit(b) as u64
+    } else if n > 4294967295 {
         n
     } else {
         n * 10 + digit(b) as u64
     }
 }
 
-fn number_at(s: &[u8], at: usize) -> Number
+fn digits_at(s: &[u8], at: usize, hexadecimal: bool) -> Number
     requires { ⌜ at ≤ length (now s) ⌝ }
     ensures { λ r. ⌜ r .next ≤ length (now (s .entry)) ⌝ }
 {
@@ -109,9 +114,23 @@ fn number_at(s: &[u8], at: usize) -> Number
         if b == b' ' {
             return Number { value, next: i };
         }
-        value = with_digit(value, b);
+        value = with_digit(value, b, hexadecimal);
     }
     Number { value, next: i }
+}
+
+fn number_at(s: &[u8], at: usize) -> Number
+    requires { ⌜ at ≤ length (now s) ⌝ }
+    ensures { λ r. ⌜ r .next ≤ length (now (s .entry)) ⌝ }
+{
+    digits_at(s, at, false)
+}
+
+fn salt_at(s: &[u8], at: usize) -> Number
+    requires { ⌜ at ≤ length (now s) ⌝ }
+    ensures { λ r. ⌜ r .next ≤ length (now (s .entry)) ⌝ }
+{
+    digits_at(s, at, true)
 }
 
 fn to_u32(n: u64) -> u32 {
@@ -203,12 +222,13 @@ fn tag_of(x: u64) -> [u8; 8]
 }
 
 // The settings that a request names, over the defaults.
-fn named_settings(rule: u64, width: u64, buckets: u64, mask: u64) -> index::Settings {
+fn named_settings(rule: u64, width: u64, buckets: u64, mask: u64, salt: u64) -> index::Settings {
     let mut s = index::Settings::defaults();
     s.rule = to_u32(rule);
     s.width = to_u32(width);
     s.buckets = to_u32(buckets);
     s.mask = to_u32(mask);
+    s.salt = salt;
     s
 }
 
@@ -219,10 +239,17 @@ fn lent_at(s: &[u8], at: usize) -> Lent
     let width = number_at(s, rule.next);
     let buckets = number_at(s, width.next);
     let mask = number_at(s, buckets.next);
-    let cells = number_at(s, mask.next);
+    let salt = salt_at(s, mask.next);
+    let cells = number_at(s, salt.next);
     let words = number_at(s, cells.next);
     Lent {
-        settings: named_settings(rule.value, width.value, buckets.value, mask.value),
+        settings: named_settings(
+            rule.value,
+            width.value,
+            buckets.value,
+            mask.value,
+            salt.value,
+        ),
         cells: cells.value as usize,
         words: words.value as usize,
     }

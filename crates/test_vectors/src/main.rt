@@ -2,10 +2,12 @@
 // standard output with " = " and the answer after it:
 //
 //     hash HEX
-//     settings RULE WIDTH BUCKETS MASK
-//     tag RULE WIDTH BUCKETS MASK HEX
-//     offset RULE WIDTH BUCKETS MASK VALUE
-//     candidates RULE WIDTH BUCKETS MASK VALUE BUCKET
+//     settings RULE WIDTH BUCKETS MASK SALT
+//     tag RULE WIDTH BUCKETS MASK SALT HEX
+//     offset RULE WIDTH BUCKETS MASK SALT VALUE
+//     candidates RULE WIDTH BUCKETS MASK SALT VALUE BUCKET
+//
+// SALT is in hexadecimal digits.
 use libc::STDIN_FILENO;
 use libc::STDOUT_FILENO;
 ghost use mathlib.Core.Path.{_≡_};
@@ -19,7 +21,7 @@ struct Number {
     next: usize,
 }
 
-// The four numbers of the settings, and where the field after them starts.
+// The five numbers of the settings, and where the field after them starts.
 struct Given {
     settings: index::Settings,
     next: usize,
@@ -64,16 +66,19 @@ fn digit(b: u8) -> u8 {
     }
 }
 
-// n with one more decimal digit. A number past 32 bits stays as it is, so that none wraps.
-fn with_digit(n: u64, b: u8) -> u64 {
-    if n > 4294967295 {
+// n with one more digit. A decimal number past 32 bits stays as it is, so that none wraps; of more than sixteen
+// hexadecimal digits the last ones count.
+fn with_digit(n: u64, b: u8, hexadecimal: bool) -> u64 {
+    if hexadecimal {
+        n << 4 | digit(b) as u64
+    } else if n > 4294967295 {
         n
     } else {
         n * 10 + digit(b) as u64
     }
 }
 
-fn number_at(s: &[u8], at: usize) -> Number
+fn digits_at(s: &[u8], at: usize, hexadecimal: bool) -> Number
     requires { ⌜ at ≤ length (now s) ⌝ }
     ensures { λ r. ⌜ r .next ≤ length (now (s .entry)) ⌝ }
 {
@@ -85,9 +90,23 @@ fn number_at(s: &[u8], at: usize) -> Number
         if b == b' ' {
             return Number { value, next: i };
         }
-        value = with_digit(value, b);
+        value = with_digit(value, b, hexadecimal);
     }
     Number { value, next: i }
+}
+
+fn number_at(s: &[u8], at: usize) -> Number
+    requires { ⌜ at ≤ length (now s) ⌝ }
+    ensures { λ r. ⌜ r .next ≤ length (now (s .entry)) ⌝ }
+{
+    digits_at(s, at, false)
+}
+
+fn salt_at(s: &[u8], at: usize) -> Number
+    requires { ⌜ at ≤ length (now s) ⌝ }
+    ensures { λ r. ⌜ r .next ≤ length (now (s .entry)) ⌝ }
+{
+    digits_at(s, at, true)
 }
 
 fn to_u32(n: u64) -> u32 {
@@ -99,12 +118,13 @@ fn to_u16(n: u64) -> u16 {
 }
 
 // The settings that a request names, over the defaults.
-fn named_settings(rule: u64, width: u64, buckets: u64, mask: u64) -> index::Settings {
+fn named_settings(rule: u64, width: u64, buckets: u64, mask: u64, salt: u64) -> index::Settings {
     let mut s = index::Settings::defaults();
     s.rule = to_u32(rule);
     s.width = to_u32(width);
     s.buckets = to_u32(buckets);
     s.mask = to_u32(mask);
+    s.salt = salt;
     s
 }
 
@@ -116,9 +136,16 @@ fn settings_at(s: &[u8], at: usize) -> Given
     let width = number_at(s, rule.next);
     let buckets = number_at(s, width.next);
     let mask = number_at(s, buckets.next);
+    let salt = salt_at(s, mask.next);
     Given {
-        settings: named_settings(rule.value, width.value, buckets.value, mask.value),
-        next: mask.next,
+        settings: named_settings(
+            rule.value,
+            width.value,
+            buckets.value,
+            mask.value,
+            salt.value,
+        ),
+        next: salt.next,
     }
 }
 
@@ -159,7 +186,7 @@ fn answer_settings(s: &[u8], at: usize)
 {
     let given = settings_at(s, at);
     let t = given.settings;
-    let checked = index::Settings::new(t.rule, t.width, t.buckets, t.mask);
+    let checked = index::Settings::new(t.rule, t.width, t.buckets, t.mask, t.salt);
     match checked {
         index::Checked::Passed(_) => {
             io::write_all(STDOUT_FILENO, b"good");

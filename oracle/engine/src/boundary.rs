@@ -23,6 +23,14 @@ extern "C" {
     fn holdlist_packed_read(settings: *const Settings, bytes: *const u8, length: usize, table: *mut u16, cells: usize) -> i64;
 }
 
+/// Settings as the library writes them: the last two words are the salt, its low half first.
+pub type Words = [u32; 6];
+
+pub fn words(s: Settings) -> Words {
+    let (low, high) = (s.salt as u32, (s.salt >> 32) as u32);
+    [s.rule, s.width, s.buckets, s.mask, low, high]
+}
+
 /// The engine. It is lent an empty buffer as null or by its place.
 #[derive(Clone, Copy)]
 pub struct Engine {
@@ -157,13 +165,13 @@ impl Engine {
     }
 
     #[inline]
-    pub fn file_settings(self, bytes: &[u8], settings: &mut [u32; 4]) -> i64 {
+    pub fn file_settings(self, bytes: &[u8], settings: &mut Words) -> i64 {
         let out = settings.as_mut_ptr().cast();
         unsafe { holdlist_file_settings(self.place(bytes), bytes.len(), out) }
     }
 
     #[inline]
-    pub fn file_read(self, bytes: &[u8], table: &mut [u16], settings: &mut [u32; 4]) -> i64 {
+    pub fn file_read(self, bytes: &[u8], table: &mut [u16], settings: &mut Words) -> i64 {
         unsafe {
             holdlist_file_read(
                 self.place(bytes),

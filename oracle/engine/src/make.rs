@@ -1,7 +1,7 @@
 //! What the tests are generated from.
 
 use oracle::index::{Settings, MASKED, PLAIN, RING};
-use oracle::requests::Mix;
+use oracle::requests::{Mix, SALTS};
 
 /// How many times as long the runs are.
 pub fn long() -> u32 {
@@ -27,8 +27,32 @@ pub fn mask(mix: &mut Mix, buckets: u32) -> u32 {
     }
 }
 
+/// A salt, 0 in every other case.
+pub fn salt(mix: &mut Mix) -> u64 {
+    match mix.below(2) {
+        0 => 0,
+        _ => some_salt(mix),
+    }
+}
+
+/// A salt that is not 0.
+pub fn some_salt(mix: &mut Mix) -> u64 {
+    match mix.below(4) {
+        0 => one_of(mix, &SALTS),
+        1 => 1 << mix.below(64),
+        // A few low bits, as those of a number that counts seasons.
+        2 => 1 + u64::from(mix.below(4_096)),
+        _ => mix.draw().max(1),
+    }
+}
+
 /// Good settings of at most 2^`log` buckets.
 pub fn settings(mix: &mut Mix, log: u32) -> Settings {
+    let salt = salt(mix);
+    unsalted(mix, log).with_salt(salt)
+}
+
+fn unsalted(mix: &mut Mix, log: u32) -> Settings {
     let width = match mix.below(3) {
         0 => one_of(mix, &[4, 12, 16]),
         _ => 4 + mix.below(13),
@@ -86,14 +110,14 @@ pub fn damage(mix: &mut Mix, bytes: &mut Vec<u8>) {
         }
         _ if n == 0 => {}
         // The head of a file is short, and its faults are many.
-        2 | 3 => bytes[mix.below(n.min(8)) as usize] = mix.below(18) as u8,
+        2 | 3 => bytes[mix.below(n.min(8)) as usize] = mix.below(34) as u8,
         4 => bytes[mix.below(n) as usize] = one_of(mix, &[0, 1, 15, 16, 0x80, 0xff]),
         5 => bytes[mix.below(n) as usize] ^= 1 << mix.below(8),
         _ => bytes[mix.below(n) as usize] = mix.draw() as u8,
     }
 }
 
-/// Settings with some fault, or more.
+/// Settings with some fault, or more. No salt is one.
 pub fn spoil(mix: &mut Mix, mut s: Settings) -> Settings {
     for _ in 0..1 + mix.below(3) {
         match mix.below(4) {

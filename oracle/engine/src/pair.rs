@@ -1,6 +1,6 @@
 //! The engine and the other implementation side by side.
 
-use crate::boundary::Engine;
+use crate::boundary::{self, Engine, Words};
 use crate::seed;
 use oracle::index::{self, Answer, Settings};
 use oracle::requests::Mix;
@@ -209,11 +209,14 @@ impl Pair {
         {
             self.tag.put(0, tag);
         }
-        let dirt: [u32; 3] = std::array::from_fn(|_| self.mix.draw() as u32);
-        let mut few = Twin::new(4, 4, || dirt[0]);
-        few.put(0, &[dirt[1], dirt[2], !dirt[1], !dirt[2]]);
-        let (few_engine, few_oracle) = few.parts(4);
-        let few_engine: &mut [u32; 4] = few_engine.try_into().expect("four are lent");
+        let dirt: [u32; 4] = std::array::from_fn(|_| self.mix.draw() as u32);
+        let mut few = Twin::new(6, 4, || dirt[0]);
+        few.put(
+            0,
+            &[dirt[1], dirt[2], !dirt[1], !dirt[2], dirt[3], !dirt[3]],
+        );
+        let (few_engine, few_oracle) = few.parts(6);
+        let few_engine: &mut Words = few_engine.try_into().expect("six are lent");
 
         let (found, expected) = match call {
             Call::Check => (engine.settings_check(&s), number(s.check(), |()| 0)),
@@ -234,13 +237,14 @@ impl Pair {
             }
             Call::Candidates(value, bucket) => {
                 let answer = index::candidates(s, value, bucket);
-                // Places past the candidates become 0.
+                // Four places are lent, and those past the candidates become 0.
                 if let Ok(list) = &answer {
-                    few_oracle.fill(0);
+                    few_oracle[..4].fill(0);
                     few_oracle[..list.len()].copy_from_slice(list);
                 }
                 let expected = number(answer, |list| list.len() as i64);
-                (engine.candidates(&s, value, bucket, few_engine), expected)
+                let four = (&mut few_engine[..4]).try_into().expect("four are lent");
+                (engine.candidates(&s, value, bucket, four), expected)
             }
             Call::Clear => {
                 let (mine, other) = self.table.parts(lend.cells);
@@ -287,7 +291,7 @@ impl Pair {
                 let (mine, other) = self.table.parts(lend.cells);
                 let (my_input, input) = self.input.parts(lend.input);
                 let expected = number(holdfile::read(input, other), |s| {
-                    few_oracle.copy_from_slice(&[s.rule, s.width, s.buckets, s.mask]);
+                    few_oracle.copy_from_slice(&boundary::words(s));
                     0
                 });
                 (engine.file_read(my_input, mine, few_engine), expected)

@@ -1,9 +1,10 @@
 //! The calls on settings, tags and buckets, and buffers that are empty.
 
-use engine::make::{long, one_of, settings, spoil, tag};
+use engine::make::{long, one_of, salt, settings, some_salt, spoil, tag};
 use engine::pair::{Call, Lend, Pair};
 use oracle::fnv_strings::KNOWN;
 use oracle::index::{self, Settings, MASKED, PLAIN, RING};
+use oracle::requests::SALTS;
 
 #[test]
 fn settings_grid() {
@@ -19,7 +20,11 @@ fn settings_grid() {
                 let around = [buckets.wrapping_sub(1), buckets, buckets.wrapping_add(1)];
                 for mask in [0, 1, 65_535, u32::MAX].into_iter().chain(around) {
                     let s = Settings::new(rule, width, buckets, mask);
-                    pair.run(Lend::of(s), Call::Check);
+                    let answer = pair.run(Lend::of(s), Call::Check);
+                    // No salt makes any difference.
+                    let salt = some_salt(&mut pair.mix);
+                    let salted = Lend::of(s.with_salt(salt));
+                    assert_eq!(pair.run(salted, Call::Check), answer);
                 }
             }
         }
@@ -33,9 +38,12 @@ fn known_strings() {
     for known in KNOWN {
         for rule in [PLAIN, RING, MASKED] {
             for width in 4..=16 {
-                let lend = Lend::of(Settings::new(rule, width, 65_536, 0));
-                pair.run(lend, Call::Fingerprint(&known.bytes()));
-                pair.run(lend, Call::Home(&known.bytes()));
+                let s = Settings::new(rule, width, 65_536, 0);
+                for salt in [0, salt(&mut pair.mix)] {
+                    let lend = Lend::of(s.with_salt(salt));
+                    pair.run(lend, Call::Fingerprint(&known.bytes()));
+                    pair.run(lend, Call::Home(&known.bytes()));
+                }
             }
         }
     }
@@ -65,9 +73,108 @@ fn tags() {
     pair.done(&[1, 2, 3, 4, 7]);
 }
 
+/// "a" under salts, where the answers are known, and that the salt is no part of an offset.
+#[test]
+fn known_salts() {
+    let mut pair = Pair::new("known salts");
+    let plain = Settings::new(PLAIN, 12, 4_096, 0);
+    for (salt, fingerprint, home) in [
+        (0, 0xc8c, 0xc4c),
+        (1, 0xe3f, 0xd4c),
+        (1 << 32, 0xc8c, 0xdff),
+        (1 << 63, 0xc8c, 0xc4c),
+        (u64::MAX, 0x1c1, 0x2b3),
+        (index::FNV_START, 0x4d3, 0x100),
+        (0x0123_4567_89ab_cdef, 0xc91, 0x4b0),
+    ] {
+        let lend = Lend::of(plain.with_salt(salt));
+        let answer = pair.run(lend, Call::Fingerprint(b"a"));
+        assert_eq!(answer, fingerprint, "{salt:x}");
+        assert_eq!(pair.run(lend, Call::Home(b"a")), home, "{salt:x}");
+        assert_eq!(pair.run(lend, Call::Offset(0xc8c)), 2_629, "{salt:x}");
+    }
+    // From 0 on, bytes of 0 leave the hash at 0.
+    let zero = Lend::of(plain.with_salt(index::FNV_START));
+    for length in [1, 2, 63, 64] {
+        let tag = vec![0; length];
+        assert_eq!(pair.run(zero, Call::Fingerprint(&tag)), 1);
+        assert_eq!(pair.run(zero, Call::Home(&tag)), 0);
+    }
+    pair.done(&[]);
+}
+
+/// What a salt turns over in the low byte of the start, the first byte of a tag can turn back.
+#[test]
+fn salts_and_first_bytes() {
+    let mut pair = Pair::new("salts and first bytes");
+    for _ in 0..4_000 * long() {
+        let s = settings(&mut pair.mix, 16);
+        let length = 1 + pair.mix.below(64) as usize;
+        let tag = pair.mix.bytes(length);
+        let byte = pair.mix.draw() as u8;
+        let mut other = tag.clone();
+        other[0] ^= byte;
+        let turned = s.with_salt(s.salt ^ u64::from(byte));
+        for call in [Call::Fingerprint, Call::Home] {
+            let answer = pair.run(Lend::of(s), call(&tag));
+            assert_eq!(pair.run(Lend::of(turned), call(&other)), answer);
+        }
+    }
+    pair.done(&[]);
+}
+
+/// Each bit of a salt. As no bit of a hash comes from a higher one, the lowest bit in which two
+/// salts differ is one in which all their hashes differ, and no lower one is.
+#[test]
+fn bits_of_a_salt() {
+    let mut pair = Pair::new("bits of a salt");
+    let plain = Settings::new(PLAIN, 16, 65_536, 0);
+    for bit in 0..64 {
+        for _ in 0..40 * long() {
+            let length = 1 + pair.mix.below(64) as usize;
+            let tag = pair.mix.bytes(length);
+            let salt = salt(&mut pair.mix);
+            let mut entry = |salt: u64| {
+                let lend = Lend::of(plain.with_salt(salt));
+                let fingerprint = pair.run(lend, Call::Fingerprint(&tag));
+                (fingerprint, pair.run(lend, Call::Home(&tag)))
+            };
+            let (one, other) = (entry(salt), entry(salt ^ 1 << bit));
+            let (fingerprints, homes) = (one.0 ^ other.0, one.1 ^ other.1);
+            match bit {
+                // 0 and 1 are one fingerprint.
+                0 if one.0 == 1 && other.0 == 1 => {}
+                0..=15 => assert_eq!(fingerprints.trailing_zeros(), bit, "{salt:x}"),
+                16..=31 => assert_eq!(fingerprints, 0, "{salt:x}"),
+                32..=47 => {
+                    let found = (fingerprints, homes.trailing_zeros());
+                    assert_eq!(found, (0, bit - 32), "{salt:x}");
+                }
+                _ => assert_eq!((fingerprints, homes), (0, 0), "{salt:x}"),
+            }
+        }
+    }
+    pair.done(&[]);
+}
+
 #[test]
 fn candidates() {
     let mut pair = Pair::new("candidates");
+    // Under each salt the same offsets and candidates.
+    for s in [
+        Settings::new(PLAIN, 16, 65_536, 0),
+        Settings::new(RING, 4, 65_534, 0),
+        Settings::new(MASKED, 12, 1_024, 0x155),
+    ] {
+        for value in (0..=u16::MAX).step_by(101) {
+            let plain = pair.run(Lend::of(s), Call::Offset(value));
+            for salt in SALTS {
+                let salted = Lend::of(s.with_salt(salt));
+                assert_eq!(pair.run(salted, Call::Offset(value)), plain);
+                pair.run(salted, Call::Candidates(value, 3));
+            }
+        }
+    }
     // Every offset of some settings.
     for s in [
         Settings::new(PLAIN, 16, 65_536, 0),

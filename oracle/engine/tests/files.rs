@@ -1,8 +1,8 @@
 //! Hold files: every shape, whole, cut short and damaged.
 
-use engine::make::{cells, damage, long, one_of, settings, Cells};
+use engine::make::{cells, damage, long, one_of, settings, some_salt, Cells};
 use engine::pair::{Call, Lend, Pair};
-use oracle::holdfile;
+use oracle::holdfile::{self, HEAD};
 use oracle::index::{Settings, MASKED, PLAIN, RING};
 
 /// More cells and bytes than a file asks for.
@@ -11,11 +11,11 @@ const SPARE: usize = 8;
 /// Room for the table and the file of these settings.
 fn open(pair: &mut Pair, s: Settings) {
     let m = s.buckets as usize;
-    pair.size(4 * m + SPARE, 0, 7 + 9 * m + SPARE);
+    pair.size(4 * m + SPARE, 0, HEAD + 9 * m + SPARE);
 }
 
 fn file(s: Settings, table: &[u16]) -> Vec<u8> {
-    let mut bytes = vec![0; 7 + 9 * s.buckets as usize];
+    let mut bytes = vec![0; HEAD + 9 * s.buckets as usize];
     let length = holdfile::write(s, table, &mut bytes).expect("good settings and cells");
     bytes.truncate(length);
     bytes
@@ -43,6 +43,10 @@ fn shapes() {
                 for mask in masks {
                     let s = Settings::new(rule, width, buckets, mask);
                     shape(&mut pair, s);
+                    if buckets <= 16 || width == 12 {
+                        let salt = some_salt(&mut pair.mix);
+                        shape(&mut pair, s.with_salt(salt));
+                    }
                 }
             }
         }
@@ -61,7 +65,7 @@ fn shape(pair: &mut Pair, s: Settings) {
     ] {
         let table = cells(&mut pair.mix, s, kind);
         pair.set_table(0, &table);
-        let all = lend.room(7 + 9 * s.buckets as usize + SPARE);
+        let all = lend.room(HEAD + 9 * s.buckets as usize + SPARE);
         let length = pair.run(all, Call::FileWrite);
         if length < 0 {
             assert_eq!(s.check().err().map(i64::from), Some(-length), "{s:?}");
@@ -114,6 +118,13 @@ fn truncations() {
     all.push(Settings::new(PLAIN, 12, 4_096, 0));
     all.push(Settings::new(RING, 16, 4_096, 0));
     all.push(Settings::new(MASKED, 12, 4_096, 0x0ff));
+    let salts = [1, 1 << 56, u64::MAX, 0x0123_4567_89ab_cdef];
+    for (i, salt) in salts.into_iter().enumerate() {
+        all.push(Settings::new(PLAIN, 12, 4_096, 0).with_salt(salt));
+        all.push(Settings::new(PLAIN, 4, 1, 0).with_salt(salt));
+        all.push(Settings::new(RING, 12, 6, 0).with_salt(salt));
+        all.push(Settings::new(MASKED, 12, 8, i as u32).with_salt(salt));
+    }
     for s in all {
         open(&mut pair, s);
         let table = cells(&mut pair.mix, s, Cells::Random(70));
@@ -174,6 +185,11 @@ fn single_byte_changes() {
         Settings::new(MASKED, 12, 1, 0),
         Settings::new(MASKED, 5, 4, 3),
         Settings::new(MASKED, 16, 8, 5),
+        // Of one bit, so that a byte that is changed makes it 0.
+        Settings::new(PLAIN, 4, 1, 0).with_salt(1),
+        Settings::new(RING, 12, 2, 0).with_salt(1 << 63),
+        Settings::new(RING, 4, 6, 0).with_salt(u64::MAX),
+        Settings::new(MASKED, 5, 4, 3).with_salt(0x0123_4567_89ab_cdef),
     ] {
         open(&mut pair, s);
         for kind in [Cells::Empty, Cells::Random(60), Cells::Full] {
@@ -198,6 +214,7 @@ fn map_bytes() {
     let widths: [u8; 9] = [0, 3, 4, 11, 12, 13, 16, 17, 255];
     let counts: [u16; 6] = [0, 1, 5, 4_094, 4_095, 65_535];
     let masks: [u16; 5] = [0, 1, 5, 4_095, 65_535];
+    let salts: [u64; 4] = [0, 1, 1 << 56, 0x0123_4567_89ab_cdef];
     /// Each of the fields, or none where the bit does not stand.
     fn fields<T: Copy>(map: u8, bit: u8, list: &[T], bytes: impl Fn(T) -> Vec<u8>) -> Vec<Vec<u8>> {
         match map >> bit & 1 {
@@ -210,7 +227,7 @@ fn map_bytes() {
     // By bucket count, so that buffers are made seldom.
     for (i, &count) in counts.iter().enumerate() {
         let with_count = u32::from(count) + 1;
-        pair.size(4 * with_count as usize, 0, 8 + with_count as usize);
+        pair.size(4 * with_count as usize, 0, HEAD + with_count as usize);
         for map in 0..=u8::MAX {
             let has_count = map & 4 != 0;
             // Without the field there are 4,096 buckets.
@@ -222,13 +239,16 @@ fn map_bytes() {
                     for mask in fields(map, 3, &masks, |n| n.to_le_bytes().to_vec()) {
                         let count = fields(map, 2, &counts[i..=i], |n| n.to_le_bytes().to_vec());
                         let head = [&[map][..], &rule, &width, &count[0], &mask].concat();
-                        accepted += heads(&mut pair, &head, with_count);
+                        for salt in fields(map, 4, &salts, |n| n.to_le_bytes().to_vec()) {
+                            let head = [&head[..], &salt].concat();
+                            accepted += heads(&mut pair, &head, with_count);
+                        }
                     }
                 }
             }
         }
     }
-    assert!(accepted >= 100, "{accepted}");
+    assert!(accepted >= 400, "{accepted}");
     pair.done(&[1, 2, 3, 4, 5, 11, 12]);
 }
 
@@ -239,7 +259,7 @@ fn heads(pair: &mut Pair, head: &[u8], buckets: u32) -> u32 {
     let length = head.len() + buckets as usize;
     pair.set_input(0, head);
     pair.set_input(head.len(), &vec![0; buckets as usize]);
-    if head[0] < 16 {
+    if head[0] < 32 {
         for cut in 0..head.len() {
             assert_eq!(pair.run(lend.input(cut), Call::FileRead), -11);
         }
@@ -251,7 +271,7 @@ fn heads(pair: &mut Pair, head: &[u8], buckets: u32) -> u32 {
     }
     // High bits of the map come before all else.
     let answer = pair.run(lend.input(length), Call::FileRead);
-    assert!(answer == -12 || head[0] < 16, "{head:?}: {answer}");
+    assert!(answer == -12 || head[0] < 32, "{head:?}: {answer}");
     u32::from(answer == 0)
 }
 
@@ -260,12 +280,33 @@ fn heads(pair: &mut Pair, head: &[u8], buckets: u32) -> u32 {
 fn order_of_checks() {
     let mut pair = Pair::new("order of file checks");
     pair.size(24, 0, 64);
-    let cases: [(&[u8], usize, i64); 44] = [
+    let salted = [
+        0x16, 4, 0, 0, 0xef, 0xcd, 0xab, 0x89, 0x67, 0x45, 0x23, 0x01, 0x0a, 9, 0, 3, 0,
+    ];
+    let cases: [(&[u8], usize, i64); 61] = [
         (&[0x06, 4, 0, 0, 0x0a, 9, 0, 3, 0], 4, 0),
+        (&salted, 4, 0),
+        (&salted[..16], 4, 11),
+        (&salted[..12], 4, 11),
+        (&salted[..11], 4, 11),
+        (&salted[..4], 0, 11),
         (&[], 4, 11),
-        (&[0x10], 4, 12),
-        (&[0x1f], 0, 12),
+        (&[0x10], 4, 11),
+        (&[0x1f], 0, 11),
+        (&[0x20], 4, 12),
+        (&[0x3f], 0, 12),
+        (&[0x40, 0, 0], 0, 12),
         (&[0x80, 0, 0], 0, 12),
+        // A salt that the bytes end before, whatever is wrong ahead of it.
+        (&[0x10, 0, 0, 0, 0, 0, 0, 0], 0, 11),
+        (&[0x13, 0, 12, 0, 0, 0, 0, 0, 0, 0], 0, 11),
+        (&[0x18, 0, 0, 1, 0, 0, 0, 0, 0, 0], 0, 11),
+        // A salt of 0 where it is there, before the settings.
+        (&[0x10, 0, 0, 0, 0, 0, 0, 0, 0], 0, 12),
+        (&[0x13, 7, 17, 0, 0, 0, 0, 0, 0, 0, 0], 0, 12),
+        (&[0x13, 7, 17, 0, 0, 0, 0, 0, 0, 0, 1], 0, 1),
+        (&[0x12, 17, 0, 0, 0, 0, 1, 0, 0, 0], 0, 2),
+        (&[0x12, 12, 1, 0, 0, 0, 0, 0, 0, 0], 0, 12),
         (&[0x01], 0, 11),
         (&[0x03, 0], 0, 11),
         (&[0x07, 7, 12, 0xff], 0, 11),
@@ -304,6 +345,7 @@ fn order_of_checks() {
         (&[0x06, 4, 1, 0, 0x00, 0x00, 0xff, 0xff], 8, 15),
         (&[0x06, 4, 1, 0, 0x01, 15, 0, 0x0f], 8, 11),
         (&[0x02, 16], 24, 5),
+        (&[0x10, 1, 0, 0, 0, 0, 0, 0, 0], 24, 5),
         (&[0x0f, 2, 16, 3, 0, 2, 0, 0, 0, 0, 0], 16, 0),
     ];
     let some = Settings::new(PLAIN, 12, 1, 0);

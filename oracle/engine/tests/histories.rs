@@ -1,7 +1,8 @@
 //! Histories of calls on one table, with wrong lengths and bad settings in between.
 
-use engine::make::{cells, damage, long, mask, one_of, settings, spoil, tag, Cells};
+use engine::make::{cells, damage, long, mask, one_of, salt, settings, spoil, tag, Cells};
 use engine::pair::{Call, Lend, Pair};
+use oracle::holdfile::HEAD;
 use oracle::index::{Settings, MASKED, PLAIN, RING};
 use oracle::requests::Mix;
 use oracle::table;
@@ -11,7 +12,7 @@ const SPARE: usize = 8;
 
 /// The most bytes that a table has in either form.
 fn most_bytes(s: Settings) -> usize {
-    7 + 9 * s.buckets as usize
+    HEAD + 9 * s.buckets as usize
 }
 
 fn open(pair: &mut Pair, s: Settings, bytes: usize) {
@@ -57,9 +58,11 @@ fn lent(mix: &mut Mix, s: Settings) -> Lend {
         return lend;
     }
     for _ in 0..1 + mix.below(2) {
-        match mix.below(3) {
+        match mix.below(4) {
             0 => lend.settings = spoil(mix, s),
-            1 => lend.cells = near(mix, lend.cells).min(4 * s.buckets as usize + SPARE),
+            // The table of one list with the salt of another, or of none.
+            1 => lend.settings.salt = salt(mix),
+            2 => lend.cells = near(mix, lend.cells).min(4 * s.buckets as usize + SPARE),
             _ => lend.words = mix.below(lend.words as u64 + 1) as usize,
         }
     }
@@ -257,6 +260,7 @@ fn large() {
         Settings::new(MASKED, 16, 65_536, 0x00ff),
         Settings::new(MASKED, 12, 65_536, mask(&mut pair.mix, 65_536)),
         Settings::new(MASKED, 12, 4_096, 0),
+        Settings::new(RING, 12, 65_534, 0).with_salt(0x0123_4567_89ab_cdef),
     ];
     all.extend((0..4 * long()).map(|_| settings(&mut pair.mix, 16)));
     for s in all {

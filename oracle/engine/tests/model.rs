@@ -2,7 +2,7 @@
 //! cleared table, against a multiset of classes and a matching. No other table is in between.
 
 use engine::boundary::Engine;
-use engine::make::{long, one_of, spoil, tag};
+use engine::make::{long, one_of, salt, spoil, tag};
 use engine::seed;
 use oracle::index::{Answer, Settings, MASKED, PLAIN, RING};
 use oracle::model::{Class, Model};
@@ -216,6 +216,7 @@ fn lists_of_calls() {
             for settings in all_settings(width) {
                 let cells = 4 * settings.buckets;
                 for kinds in [cells / 3 + 1, 2 * cells, 1 << 20] {
+                    let settings = settings.with_salt(salt(&mut mix));
                     let mut sides = Sides::new(settings, cells as usize, &mut mix, &mut seen);
                     sides.list(40 + 4 * cells, kinds.into());
                 }
@@ -225,7 +226,7 @@ fn lists_of_calls() {
         for _ in 0..200 {
             let good = all_settings(4 + mix.below(13));
             let good = one_of(&mut mix, &good);
-            let settings = spoil(&mut mix, good);
+            let settings = spoil(&mut mix, good).with_salt(salt(&mut mix));
             // A fault may make them good again.
             if settings.check().is_err() {
                 Sides::new(settings, 8, &mut mix, &mut seen).list(12, 100);

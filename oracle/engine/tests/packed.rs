@@ -1,6 +1,6 @@
 //! Packed forms: every width, whole, cut short and damaged.
 
-use engine::make::{cells, damage, long, one_of, settings, Cells};
+use engine::make::{cells, damage, long, one_of, settings, some_salt, Cells};
 use engine::pair::{Call, Lend, Pair};
 use oracle::index::{Settings, PLAIN, RING};
 use oracle::packed;
@@ -90,6 +90,14 @@ fn shape(pair: &mut Pair, s: Settings, kind: Cells) {
     );
     assert_eq!(pair.run(lend.room(length - 1), Call::PackedWrite), -16);
     let bytes = pair.out()[..length].to_vec();
+    // The form has no salt, so that those of all salts are the same.
+    let salt = some_salt(&mut pair.mix);
+    let salted = Lend::of(s.with_salt(salt));
+    assert_eq!(
+        pair.run(salted.room(length), Call::PackedWrite),
+        length as i64
+    );
+    assert!(pair.out()[..length] == bytes);
     pair.set_input(0, &bytes);
     let other: Vec<u16> = table.iter().map(|cell| cell ^ 0x5a5a).collect();
     pair.set_table(0, &other);
@@ -101,10 +109,12 @@ fn shape(pair: &mut Pair, s: Settings, kind: Cells) {
     assert_eq!(pair.run(lend.input(length - 1), Call::PackedRead), -11);
     assert_eq!(pair.run(lend.input(length + 1), Call::PackedRead), -15);
     let filled = table.iter().filter(|&&cell| cell != 0).count();
-    assert_eq!(
-        pair.run(lend.input(length), Call::PackedRead),
-        filled as i64
-    );
+    for lend in [salted, lend] {
+        assert_eq!(
+            pair.run(lend.input(length), Call::PackedRead),
+            filled as i64
+        );
+    }
     // What was read is written as the same bytes.
     assert_eq!(
         pair.run(lend.room(length), Call::PackedWrite),

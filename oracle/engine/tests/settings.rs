@@ -1,16 +1,16 @@
 //! The settings that a hold file names, from its header alone, held to a reader of headers that is written here from
 //! docs/FORMATS.md. After every call the settings that were lent are compared, with what stands around them.
 
-use engine::boundary::Engine;
+use engine::boundary::{words, Engine};
 use engine::make::{long, one_of};
 use engine::pair::Pair;
 use oracle::index::{Answer, Settings};
 use oracle::requests::Mix;
 use std::io::{self, Write};
 
-/// Rule, width, bucket count less 1 and mask: the bytes that each takes, and its default.
-const SIZES: [usize; 4] = [1, 1, 2, 2];
-const DEFAULTS: [u32; 4] = [0, 12, 4_095, 0];
+/// Rule, width, bucket count less 1, mask and salt: the bytes that each takes, and its default.
+const SIZES: [usize; 5] = [1, 1, 2, 2, 8];
+const DEFAULTS: [u64; 5] = [0, 12, 4_095, 0, 0];
 
 fn stands(map: u8, field: usize) -> bool {
     map >> field & 1 == 1
@@ -19,7 +19,7 @@ fn stands(map: u8, field: usize) -> bool {
 /// What a header names, or its refusal.
 fn header(bytes: &[u8]) -> Answer<Settings> {
     let (&map, mut rest) = bytes.split_first().ok_or(11u32)?;
-    if map > 15 {
+    if map > 31 {
         return Err(12);
     }
     let mut values = DEFAULTS;
@@ -29,26 +29,30 @@ fn header(bytes: &[u8]) -> Answer<Settings> {
             values[field] = low_first
                 .iter()
                 .rev()
-                .fold(0, |v, &b| 256 * v + u32::from(b));
+                .fold(0, |v, &b| 256 * v + u64::from(b));
             rest = &rest[size..];
         }
     }
-    let [rule, width, less, mask] = values;
-    if (0..3).any(|field| stands(map, field) && values[field] == DEFAULTS[field]) {
+    let [rule, width, less, mask] = [0, 1, 2, 3].map(|field| values[field] as u32);
+    // A mask of 0 is there under rule 2; the others are there where they are not the default.
+    if [0, 1, 2, 4]
+        .iter()
+        .any(|&field| stands(map, field) && values[field] == DEFAULTS[field])
+    {
         return Err(12);
     }
     if stands(map, 3) != (rule == 2) {
         return Err(12);
     }
-    let settings = Settings::new(rule, width, less + 1, mask);
+    let settings = Settings::new(rule, width, less + 1, mask).with_salt(values[4]);
     settings.check()?;
     Ok(settings)
 }
 
 /// The bytes of a map and of the fields that stand in it.
-fn spelled(map: u8, values: [u32; 4]) -> Vec<u8> {
+fn spelled(map: u8, values: [u64; 5]) -> Vec<u8> {
     let mut bytes = vec![map];
-    for field in (0..4).filter(|&field| stands(map, field)) {
+    for field in (0..5).filter(|&field| stands(map, field)) {
         bytes.extend(&values[field].to_le_bytes()[..SIZES[field]]);
     }
     bytes
@@ -74,21 +78,21 @@ impl Held {
         let engine = Engine {
             null: self.mix.below(2) == 0,
         };
-        let before: [u32; 12] = std::array::from_fn(|_| self.mix.draw() as u32);
+        let before: [u32; 14] = std::array::from_fn(|_| self.mix.draw() as u32);
         let (mut found, mut expected) = (before, before);
         let answer = match header(bytes) {
             Ok(s) => {
-                expected[4..8].copy_from_slice(&[s.rule, s.width, s.buckets, s.mask]);
+                expected[4..10].copy_from_slice(&words(s));
                 0
             }
             Err(number) => -i64::from(number),
         };
-        let lent = (&mut found[4..8]).try_into().expect("four are lent");
+        let lent = (&mut found[4..10]).try_into().expect("six are lent");
         assert_eq!(engine.file_settings(bytes, lent), answer, "{bytes:02x?}");
         assert_eq!(found, expected, "{bytes:02x?}");
         // A header that is refused refuses the reading, whatever table is lent.
         if answer < 0 {
-            let lent = (&mut found[4..8]).try_into().expect("four are lent");
+            let lent = (&mut found[4..10]).try_into().expect("six are lent");
             let mut table = [0x5a5a; 4];
             let cells = 4 * self.mix.below(2) as usize;
             let read = engine.file_read(bytes, &mut table[..cells], lent);
@@ -111,11 +115,12 @@ impl Held {
 }
 
 /// Values of each field, good and bad, the default among them.
-const VALUES: [&[u32]; 4] = [
+const VALUES: [&[u64]; 5] = [
     &[0, 1, 2, 3, 255],
     &[0, 3, 4, 11, 12, 13, 16, 17, 255],
     &[0, 1, 2, 5, 7, 4_094, 4_095, 4_096, 65_533, 65_534, 65_535],
     &[0, 1, 5, 4_095, 4_096, 65_535],
+    &[0, 1, 1 << 32, 1 << 63, u64::MAX, 0x0123_4567_89ab_cdef],
 ];
 
 /// Every map with these values of the fields that stand in it, and every truncation.
@@ -131,17 +136,12 @@ fn maps_and_truncations() {
             for &width in of(1) {
                 for &less in of(2) {
                     for &mask in of(3) {
-                        let mut bytes = spelled(map, [rule, width, less, mask]);
-                        let length = bytes.len();
-                        bytes.extend(held.mix.bytes(3));
-                        // What follows the header is not looked at.
-                        let whole = held.named(&bytes, length);
-                        assert_eq!(held.named(&bytes, length + 3), whole);
-                        if map > 15 {
-                            break;
+                        for &salt in of(4) {
+                            whole_and_cut(&mut held, map, [rule, width, less, mask, salt]);
                         }
-                        for count in 1..length {
-                            assert_eq!(held.named(&bytes, count), -11);
+                        // High bits come before all else.
+                        if map > 31 {
+                            break;
                         }
                     }
                 }
@@ -151,33 +151,98 @@ fn maps_and_truncations() {
     held.done("headers of every map");
 }
 
+/// A header whole, with something behind it, and cut anywhere.
+fn whole_and_cut(held: &mut Held, map: u8, values: [u64; 5]) {
+    let mut bytes = spelled(map, values);
+    let length = bytes.len();
+    bytes.extend(held.mix.bytes(3));
+    // What follows the header is not looked at.
+    let whole = held.named(&bytes, length);
+    assert_eq!(held.named(&bytes, length + 3), whole);
+    if map > 31 {
+        return;
+    }
+    for count in 1..length {
+        assert_eq!(held.named(&bytes, count), -11);
+    }
+}
+
+/// Every salt of one bit, of one byte and of all but one, alone and behind each set of good fields.
+#[test]
+fn salts() {
+    let mut held = Held::new("headers with a salt");
+    let bits = (0..64).flat_map(|bit| [1 << bit, !(1 << bit)]);
+    let bytes = (0..8).flat_map(|at| (0..=255u64).map(move |byte| byte << (8 * at)));
+    for salt in bits.chain(bytes) {
+        for (map, values) in [
+            (0x10, [0, 12, 4_095, 0]),
+            (0x12, [0, 4, 4_095, 0]),
+            (0x15, [1, 12, 5, 0]),
+            (0x19, [2, 12, 4_095, 0]),
+            (0x1f, [2, 16, 15, 12]),
+        ] {
+            let [rule, width, less, mask] = values;
+            let bytes = spelled(map, [rule, width, less, mask, salt]);
+            let answer = held.named(&bytes, bytes.len());
+            assert_eq!(answer, if salt == 0 { -12 } else { 0 }, "{bytes:02x?}");
+            whole_and_cut(&mut held, map, [rule, width, less, mask, salt]);
+            // With a bit of the map that has no field.
+            for high in [0x20, 0x40, 0x80] {
+                let bytes = spelled(map | high, [rule, width, less, mask, salt]);
+                assert_eq!(held.named(&bytes, bytes.len()), -12);
+            }
+        }
+    }
+    // A fault of each of the settings, behind a good salt.
+    for (values, number) in [
+        ([3, 12, 4_095, 0, 1], 1),
+        ([0, 3, 4_095, 0, 1], 2),
+        ([0, 4, 2, 0, 1], 3),
+        ([2, 4, 3, 4, 1], 4),
+    ] {
+        let bytes = spelled(map_of(values), values);
+        assert_eq!(held.named(&bytes, bytes.len()), -number);
+    }
+    held.done("headers with a salt");
+}
+
+/// The map that the writer makes of these values.
+fn map_of(values: [u64; 5]) -> u8 {
+    let differs = |field: usize| u8::from(values[field] != DEFAULTS[field]) << field;
+    differs(0) | differs(1) | differs(2) | u8::from(values[0] == 2) << 3 | differs(4)
+}
+
 /// Every change of one byte, of good headers and bad.
 #[test]
 fn changed_bytes() {
     let mut held = Held::new("headers changed");
     for values in [
-        [0, 12, 4_095, 0],
-        [0, 4, 0, 0],
-        [0, 16, 65_535, 0],
-        [0, 12, 15, 0],
-        [1, 12, 4_095, 0],
-        [1, 5, 5, 0],
-        [1, 16, 65_533, 0],
-        [2, 12, 4_095, 0],
-        [2, 12, 4_095, 4_095],
-        [2, 4, 0, 0],
-        [2, 9, 31, 21],
-        [2, 16, 65_535, 65_535],
-        [3, 3, 2, 65_535],
-        [1, 17, 6, 0],
-        [2, 11, 4_094, 4_095],
+        [0, 12, 4_095, 0, 0],
+        [0, 4, 0, 0, 0],
+        [0, 16, 65_535, 0, 0],
+        [0, 12, 15, 0, 0],
+        [1, 12, 4_095, 0, 0],
+        [1, 5, 5, 0, 0],
+        [1, 16, 65_533, 0, 0],
+        [2, 12, 4_095, 0, 0],
+        [2, 12, 4_095, 4_095, 0],
+        [2, 4, 0, 0, 0],
+        [2, 9, 31, 21, 0],
+        [2, 16, 65_535, 65_535, 0],
+        [3, 3, 2, 65_535, 0],
+        [1, 17, 6, 0, 0],
+        [2, 11, 4_094, 4_095, 0],
+        [0, 12, 4_095, 0, 1],
+        [0, 4, 0, 0, 1 << 63],
+        [1, 12, 4_095, 0, u64::MAX],
+        [1, 5, 5, 0, 0x0123_4567_89ab_cdef],
+        [2, 12, 4_095, 0, 1 << 32],
+        [2, 9, 31, 21, 0xff00],
+        [3, 3, 2, 65_535, 1],
     ] {
-        let map = (0..3).fold(0, |map, field| {
-            map | u8::from(values[field] != DEFAULTS[field]) << field
-        }) | u8::from(values[0] == 2) << 3;
-        let mut bytes = spelled(map, values);
+        let mut bytes = spelled(map_of(values), values);
         let length = bytes.len();
-        bytes.extend(held.mix.bytes(8));
+        bytes.extend(held.mix.bytes(15));
         for at in 0..length {
             let kept = bytes[at];
             for byte in 0..=255 {
@@ -185,6 +250,7 @@ fn changed_bytes() {
                 // The map may have become one with more fields: those bytes are there, or are not.
                 held.named(&bytes, length);
                 held.named(&bytes, length + 8);
+                held.named(&bytes, length + 15);
                 held.named(&bytes, at + 1);
             }
             bytes[at] = kept;
@@ -198,10 +264,10 @@ fn changed_bytes() {
 fn random_bytes() {
     let mut held = Held::new("random headers");
     for _ in 0..200_000 * long() {
-        let count = held.mix.below(12) as usize;
+        let count = held.mix.below(20) as usize;
         let mut bytes = held.mix.bytes(count);
         if count > 0 && held.mix.below(8) > 0 {
-            bytes[0] %= 16;
+            bytes[0] %= 32;
         }
         for byte in bytes.iter_mut().skip(1) {
             if held.mix.below(2) == 0 {

@@ -3,11 +3,12 @@
 //! The tool is `target/bin/gedrunelj`, or what `GEDRUNELJ` names. The seed and the length of the
 //! generated scripts are set as for the other tests.
 
-use engine::make::{cells, damage, long, one_of, settings, spoil, tag, Cells};
+use engine::make::{cells, damage, long, one_of, settings, some_salt, spoil, tag, Cells};
 use engine::run::{command, talk, tool, Files, Folder, WHOLE};
 use engine::seed::{mix, tell};
+use oracle::holdfile::HEAD;
 use oracle::index::{Settings, MASKED, PLAIN, RING};
-use oracle::requests::{numbers, to_hex, Mix};
+use oracle::requests::{to_hex, Mix};
 use oracle::{holdfile, packed, table};
 use std::fs;
 use std::io::{BufRead, BufReader, Write};
@@ -24,12 +25,15 @@ const NO_COMMAND: &str = "there is no such command; help names them";
 const NO_TAG: &str = "a tag is missing after the command: text, or hexadecimal digits after 0x";
 const NO_NAME: &str = "the name of a file is missing after the command";
 const NO_BUCKET: &str = "view takes the number of a bucket";
-const FEW_SETTINGS: &str =
-    "settings takes four numbers, RULE WIDTH BUCKETS MASK, or none to tell the present ones";
+const FEW_SETTINGS: &str = "settings takes four numbers, RULE WIDTH BUCKETS MASK, \
+                            and a salt if one is wanted, or none to tell the present ones";
 const MANY_BUCKETS: &str = "view takes one number and no more";
-const MANY_SETTINGS: &str = "settings takes four numbers and no more: RULE WIDTH BUCKETS MASK";
+const MANY_SETTINGS: &str =
+    "settings takes four numbers and a salt, and no more: RULE WIDTH BUCKETS MASK [SALT]";
 const ALONE: &str = "the command stands alone";
 const NO_NUMBER: &str = "is not a number in decimal digits below 4294967296";
+const NO_SALT: &str = "the salt is not a number below 18446744073709551616, \
+                       in decimal or hexadecimal digits after 0x";
 const NOT_THE_LIST: &str = "not written: the last load or unpack failed, so this is not its list; \
                             after clear, settings or a good load or unpack it can be";
 const NO_HEX: &str = "what stands after 0x is not pairs of hexadecimal digits";
@@ -144,6 +148,22 @@ fn number(word: &[u8]) -> Option<u32> {
         .ok()
 }
 
+/// A salt as it is typed. Only digits may follow the mark, and there has to be one.
+fn typed_salt(word: &[u8]) -> Option<u64> {
+    let (base, digits) = match word.strip_prefix(b"0x") {
+        Some(digits) => (16, digits),
+        None => (10, word),
+    };
+    if digits.is_empty() {
+        return None;
+    }
+    let value = |&digit: &u8| char::from(digit).to_digit(base);
+    digits.iter().try_fold(0u64, |number, digit| {
+        let more = number.checked_mul(base.into())?;
+        more.checked_add(value(digit)?.into())
+    })
+}
+
 /// The bytes of a tag as it is typed.
 fn typed(text: &[u8]) -> Option<Vec<u8>> {
     let digits = match text.strip_prefix(b"0x") {
@@ -171,7 +191,7 @@ fn buckets_named(bytes: &[u8]) -> usize {
 }
 
 fn hold_file(s: Settings, table: &[u16]) -> Vec<u8> {
-    let mut bytes = vec![0; 7 + 9 * s.buckets as usize];
+    let mut bytes = vec![0; HEAD + 9 * s.buckets as usize];
     let length = holdfile::write(s, table, &mut bytes).expect("good settings and cells");
     bytes.truncate(length);
     bytes
@@ -256,7 +276,7 @@ impl List {
         let words: Vec<&[u8]> = words.collect();
         let (least, most) = match command {
             b"settings" if words.is_empty() => return Ok(self.told_settings()),
-            b"settings" => (4, 4),
+            b"settings" => (4, 5),
             b"view" => (1, 1),
             b"clear" | b"stats" | b"help" => (0, 0),
             b"hold" | b"release" | b"lookup" => (1, LINE),
@@ -285,14 +305,19 @@ impl List {
                 None => self.bad(NO_HEX),
             },
             b"settings" | b"view" => {
-                let list: Vec<Option<u32>> = words.into_iter().map(number).collect();
+                let least = &words[..least];
+                let list: Vec<Option<u32>> = least.iter().map(|word| number(word)).collect();
+                let salt = words.get(4).map_or(Some(0), |word| typed_salt(word));
                 let names: &[&str] = match command {
                     b"view" => &["the bucket"],
                     _ => &["the rule", "the width", "the bucket count", "the mask"],
                 };
-                match list.iter().position(Option::is_none) {
-                    Some(i) => self.bad(&format!("{} {NO_NUMBER}", names[i])),
-                    None => self.with_numbers(list.into_iter().flatten().collect()),
+                match (list.iter().position(Option::is_none), salt) {
+                    (Some(i), _) => self.bad(&format!("{} {NO_NUMBER}", names[i])),
+                    (None, None) => self.bad(NO_SALT),
+                    (None, Some(salt)) => {
+                        self.with_numbers(list.into_iter().flatten().collect(), salt)
+                    }
                 }
             }
             b"save" | b"pack" => self.write(command, rest),
@@ -309,7 +334,8 @@ impl List {
     fn told_settings(&self) -> String {
         let s = self.settings;
         let (rule, width, buckets, mask) = (s.rule, s.width, s.buckets, s.mask);
-        format!("rule {rule}, width {width}, buckets {buckets}, mask {mask}")
+        let salt = s.salt;
+        format!("rule {rule}, width {width}, buckets {buckets}, mask {mask}, salt {salt}")
     }
 
     fn with_tag(&mut self, command: &[u8], tag: &[u8]) -> Said {
@@ -336,9 +362,9 @@ impl List {
     }
 
     /// Settings, or the view of a bucket.
-    fn with_numbers(&mut self, list: Vec<u32>) -> Said {
+    fn with_numbers(&mut self, list: Vec<u32>, salt: u64) -> Said {
         if let [rule, width, buckets, mask] = list[..] {
-            let s = Settings::new(rule, width, buckets, mask);
+            let s = Settings::new(rule, width, buckets, mask).with_salt(salt);
             s.check()?;
             self.begin(s);
             return Ok("cleared".into());
@@ -547,7 +573,7 @@ fn prepare(mix: &mut Mix, folder: &Folder, log: u32) {
         let first = file.len() - s.buckets as usize - 2 * filled;
         let last = form.len() - 1;
         for (name, bytes) in [
-            ("head .hold", with(&file, 0, &[file[0] | 0x10])),
+            ("head .hold", with(&file, 0, &[file[0] | 0x20])),
             ("map .hold", with(&file, first, &[0x1f])),
             ("row .pack", with(&form, 0, &[0xff, 0xff])),
             ("order .pack", with(&vec![0; form.len()], 1, &[0x10])),
@@ -570,11 +596,25 @@ hold# a\n\
 -\n\
 settings\n\
 settings 0 12 8\n\
-settings 0 12 8 0 0\n\
+settings 0 12 8 0 0 0\n\
+settings 0 12 8 0 x\n\
+settings 0 12 8 0 0x\n\
+settings 0 12 8 0 0X1\n\
+settings 0 12 8 0 0x1g\n\
+settings 0 12 8 0 1f\n\
+settings 0 12 8 0 -1\n\
+settings 0 12 8 0 +1\n\
+settings 0 12 8 0 18446744073709551616\n\
+settings 0 12 8 0 99999999999999999999\n\
+settings 0 12 8 0 0x10000000000000000\n\
+settings 0 12 x 0 y\n\
+settings 3 12 8 0 y\n\
+settings 3 12 8 0 0xf\n\
 settings 0 12 x 0\n\
 settings 0 12 8 0x0\n\
 settings a b c\n\
 settings a b c d e\n\
+settings a b c d e f\n\
 settings 4294967296 12 8 0\n\
 settings 0 4294967308 8 0\n\
 settings 0 12 4294967304 0\n\
@@ -613,6 +653,11 @@ save 0.hold/x\n\
 unpack 0.hold/x\n\
 load folder/none\n\
 hold 0x1";
+
+/// The settings but for the salt, as they are typed.
+fn four(s: Settings) -> String {
+    format!("{} {} {} {}", s.rule, s.width, s.buckets, s.mask)
+}
 
 /// A script as it grows, with what the tool has to say to it.
 struct Maker {
@@ -668,6 +713,18 @@ impl Maker {
             self.blanks(0),
         ];
         self.line(&parts.concat());
+    }
+
+    /// A salt of 0 is typed or not, any other in decimal or hexadecimal digits.
+    fn say_settings(&mut self, s: Settings) {
+        let salt = match self.mix.below(4) {
+            0 | 1 if s.salt == 0 => String::new(),
+            0 => format!(" {}", s.salt),
+            1 => format!(" 0x{:x}", s.salt),
+            2 => format!(" 0x{:016X}", s.salt),
+            _ => format!(" {:032}", s.salt),
+        };
+        self.say_to("settings", four(s) + &salt);
     }
 
     fn say_to(&mut self, command: &str, name: String) {
@@ -844,7 +901,7 @@ impl Maker {
             }
             198 => {
                 let s = spoil(&mut self.mix, self.list.settings);
-                self.say_to("settings", numbers(s));
+                self.say_settings(s);
             }
             _ if self.mix.below(8) == 0 => self.say("clear", b""),
             _ => self.remark(),
@@ -855,7 +912,8 @@ impl Maker {
     fn part(&mut self, s: Settings, steps: u32) {
         let cells = 4 * s.buckets;
         self.kinds = u64::from(one_of(&mut self.mix, &[cells / 3 + 1, 2 * cells, 1 << 20]));
-        self.say_to("settings", numbers(s));
+        self.say_settings(s);
+        self.line(b"settings");
         self.held.clear();
         let mut up = true;
         for _ in 0..steps {
@@ -925,7 +983,10 @@ fn every_way() {
     prepare(&mut Mix(start), &folder, 6);
     let mut maker = Maker::new(mix, &folder);
     for rule in [PLAIN, RING, MASKED] {
-        maker.part(Settings::new(rule, 9, 16, 0), 900);
+        maker.part(
+            Settings::new(rule, 9, 16, 0).with_salt(u64::from(rule)),
+            900,
+        );
     }
     // A line that is too long among the others.
     maker.line(&[b'#'; LINE + 10]);
@@ -1032,7 +1093,7 @@ fn known_answers() {
         ("release a", "absent"),
         (
             "load f",
-            "loaded, 1 entry, rule 0, width 12, buckets 4096, mask 0",
+            "loaded, 1 entry, rule 0, width 12, buckets 4096, mask 0, salt 0",
         ),
         ("lookup a", "held, 1 order"),
         ("clear", "cleared"),
@@ -1073,7 +1134,7 @@ fn known_answers() {
             "load g",
             "line 37: cannot read g: there is no such file or folder",
         ),
-        ("settings", "rule 1, width 16, buckets 6, mask 0"),
+        ("settings", "rule 1, width 16, buckets 6, mask 0, salt 0"),
         (
             "settings 0 12 0x8 0",
             "line 39: the bucket count is not a number in decimal digits below 4294967296",
@@ -1086,11 +1147,11 @@ fn known_answers() {
         ("view", "line 42: view takes the number of a bucket"),
         (
             "settings 0 12 8",
-            "line 43: settings takes four numbers, RULE WIDTH BUCKETS MASK, or none to tell the present ones",
+            "line 43: settings takes four numbers, RULE WIDTH BUCKETS MASK, and a salt if one is wanted, or none to tell the present ones",
         ),
         (
-            "settings 0 12 8 0 0",
-            "line 44: settings takes four numbers and no more: RULE WIDTH BUCKETS MASK",
+            "settings 0 12 8 0 0 0",
+            "line 44: settings takes four numbers and a salt, and no more: RULE WIDTH BUCKETS MASK [SALT]",
         ),
     ];
     let script: Vec<&str> = pairs.iter().map(|pair| pair.0).collect();
@@ -1099,6 +1160,130 @@ fn known_answers() {
         assert_eq!(answer, expected, "{line}");
     }
     assert_eq!(folder.names(), ["f", "p"]);
+}
+
+/// "a" hashes to af63dd4c8601ee3f under the salt 1, and to 2c8344b001608c91 under 0x0123456789abcdef.
+#[test]
+fn known_salts() {
+    let folder = Folder::new("known salts");
+    let salt = "line 21: the salt is not a number below 18446744073709551616, in decimal or hexadecimal digits after 0x";
+    let pairs = [
+        ("settings", "rule 0, width 12, buckets 4096, mask 0, salt 0"),
+        ("settings 0 12 4096 0 1", "cleared"),
+        ("settings", "rule 0, width 12, buckets 4096, mask 0, salt 1"),
+        ("hold a", "accepted, 0 moves"),
+        ("view 3404", "bucket 3404: 3647 0 0 0"),
+        ("save f", "saved, 4107 bytes"),
+        ("pack p", "packed, 22528 bytes"),
+        // The same cells with no salt.
+        ("settings 0 12 4096 0", "cleared"),
+        ("settings", "rule 0, width 12, buckets 4096, mask 0, salt 0"),
+        ("unpack p", "unpacked, 1 entry"),
+        ("lookup a", "clear"),
+        ("lookup 0x60", "held, 1 order"),
+        (
+            "load f",
+            "loaded, 1 entry, rule 0, width 12, buckets 4096, mask 0, salt 1",
+        ),
+        ("lookup a", "held, 1 order"),
+        ("settings 0 12 4096 0 0x0123456789abcDEF", "cleared"),
+        (
+            "settings",
+            "rule 0, width 12, buckets 4096, mask 0, salt 81985529216486895",
+        ),
+        ("hold a", "accepted, 0 moves"),
+        ("view 1200", "bucket 1200: 3217 0 0 0"),
+        // A list that is cleared keeps its salt.
+        ("clear", "cleared"),
+        (
+            "settings",
+            "rule 0, width 12, buckets 4096, mask 0, salt 81985529216486895",
+        ),
+        ("settings 0 12 4096 0 18446744073709551616", salt),
+        ("settings 0 4 1 0 18446744073709551615", "cleared"),
+        (
+            "settings",
+            "rule 0, width 4, buckets 1, mask 0, salt 18446744073709551615",
+        ),
+        ("save g", "saved, 13 bytes"),
+        ("settings 0 4 1 0 0x00000000000000000001", "cleared"),
+        (
+            "load g",
+            "loaded, 0 entries, rule 0, width 4, buckets 1, mask 0, salt 18446744073709551615",
+        ),
+    ];
+    let script: Vec<&str> = pairs.iter().map(|pair| pair.0).collect();
+    let answers = check_lines("known salts", &folder, &script);
+    for ((line, expected), answer) in pairs.iter().zip(&answers) {
+        assert_eq!(answer, expected, "{line}");
+    }
+    let file = folder.get("f");
+    assert_eq!(file[..9], [0x10, 1, 0, 0, 0, 0, 0, 0, 0]);
+    let mut all = [0xff; 13];
+    all[..4].copy_from_slice(&[0x16, 4, 0, 0]);
+    all[12] = 0;
+    assert_eq!(folder.get("g"), all);
+}
+
+/// Salts at the limit and beyond, with zeros before them and digits of both cases.
+#[test]
+fn typed_salts() {
+    let folder = Folder::new("typed salts");
+    let max = u64::MAX;
+    let mut good = vec![];
+    for salt in [0, 1, 9, 10, 15, 16, 2_027, 1 << 32, 1 << 63, max - 1, max] {
+        good.extend([
+            (salt.to_string(), salt),
+            (format!("{salt:040}"), salt),
+            (format!("0x{salt:x}"), salt),
+            (format!("0x{salt:X}"), salt),
+            (format!("0x{salt:040x}"), salt),
+        ]);
+    }
+    let bad = [
+        "0x",
+        "0X1",
+        "x1",
+        "1x",
+        "0x0x1",
+        "1f",
+        "f",
+        "0xg",
+        "0x1_0",
+        "-1",
+        "+1",
+        "1.0",
+        "1,",
+        "18446744073709551616",
+        "18446744073709551625",
+        "184467440737095516150",
+        "0x10000000000000000",
+        "0xfffffffffffffffff",
+        "0x1ffffffffffffffff",
+    ];
+    let mut script = vec![];
+    for (typed, _) in &good {
+        script.extend([format!("settings 1 12 6 0 {typed}"), "settings".into()]);
+    }
+    for typed in bad {
+        script.extend([format!("settings 1 12 6 0 {typed}"), "settings".into()]);
+    }
+    let lines: Vec<&str> = script.iter().map(String::as_str).collect();
+    let answers = check_lines("typed salts", &folder, &lines);
+    let told = |salt: u64| format!("rule 1, width 12, buckets 6, mask 0, salt {salt}");
+    let pairs: Vec<&[String]> = answers.chunks(2).collect();
+    for ((typed, salt), pair) in good.iter().zip(&pairs) {
+        assert_eq!(*pair, ["cleared".to_string(), told(*salt)], "{typed}");
+    }
+    // What is refused leaves the last one.
+    for (i, (typed, pair)) in bad.iter().zip(&pairs[good.len()..]).enumerate() {
+        let line = 2 * (good.len() + i) + 1;
+        assert_eq!(
+            *pair,
+            [format!("line {line}: {NO_SALT}"), told(max)],
+            "{typed}"
+        );
+    }
 }
 
 /// One move and more, and the longest of them, which some commands forget.
@@ -1170,7 +1355,7 @@ fn meanings() {
     let folder = Folder::new("meanings");
     let file = hold_file(Settings::new(PLAIN, 4, 1, 0), &[0, 9, 0, 3]);
     folder.put("short", &file[..8]);
-    folder.put("head", &with(&file, 0, &[0x16]));
+    folder.put("head", &with(&file, 0, &[0x26]));
     folder.put("map", &with(&file, 4, &[0x1a]));
     folder.put("print", &with(&file, 5, &[0]));
     folder.put("more", &[&file[..], &[0]].concat());
@@ -1229,13 +1414,14 @@ fn help_names_every_command() {
 fn largest_lists() {
     let name = "largest lists";
     let mut mix = mix(name);
+    let salt = some_salt(&mut mix);
     for (s, holds) in [
         (Settings::new(PLAIN, 16, 65_536, 0), 200_000),
-        (Settings::new(RING, 16, 65_536, 0), 200_000),
+        (Settings::new(RING, 16, 65_536, 0).with_salt(salt), 200_000),
         (Settings::new(MASKED, 16, 65_536, 0x0ff0), 250_000),
     ] {
         let folder = Folder::new(&format!("{name} {}", s.rule));
-        let mut script = format!("settings {}\n", numbers(s));
+        let mut script = format!("settings {} {}\n", four(s), s.salt);
         for _ in 0..holds {
             match mix.below(2) {
                 0 => script += &format!("hold {}\n", mix.draw()),
@@ -1273,16 +1459,16 @@ fn fullest_files() {
     let name = "fullest files";
     let mut mix = mix(name);
     let folder = Folder::new(name);
-    let s = Settings::new(MASKED, 16, 65_536, 0x5a5a);
+    let s = Settings::new(MASKED, 16, 65_536, 0x5a5a).with_salt(u64::MAX);
     let table = cells(&mut mix, s, Cells::Full);
     let file = hold_file(s, &table);
-    assert_eq!(file.len(), 589_831);
+    assert_eq!(file.len(), 589_839);
     folder.put("full", &file);
     for (name, more) in [("one more", 1), ("two more", 2), ("far more", 1_000_000)] {
         let more = mix.bytes(more);
         folder.put(name, &[&file[..], &more].concat());
     }
-    folder.put("one less", &file[..589_830]);
+    folder.put("one less", &file[..589_838]);
     folder.put("packed", &packed_form(s, &table));
     folder.put("zeros", &vec![0; 2_000_000]);
     let answers = check_lines(
@@ -1315,12 +1501,12 @@ fn fullest_files() {
     );
     assert_eq!(
         answers[0],
-        "loaded, 262144 entries, rule 2, width 16, buckets 65536, mask 23130"
+        "loaded, 262144 entries, rule 2, width 16, buckets 65536, mask 23130, salt 18446744073709551615"
     );
     let stats = "entries 262144, buckets 65536, load 100.0 %, longest relocation 0";
     assert_eq!([&answers[1], &answers[14], &answers[16]], [stats; 3]);
     assert!(answers[2].starts_with("refused 9: "));
-    assert_eq!(answers[5], "saved, 589831 bytes");
+    assert_eq!(answers[5], "saved, 589839 bytes");
     assert!(folder.get("again") == file);
     for answer in &answers[7..=9] {
         assert!(answer.starts_with("refused 15: "), "{answer}");
@@ -1470,6 +1656,8 @@ fn files_of_other_lists() {
         Settings::new(PLAIN, 5, 8, 0),
         Settings::new(PLAIN, 9, 4, 0),
         Settings::new(MASKED, 16, 1, 0),
+        // The first one again, with a salt.
+        Settings::new(PLAIN, 12, 8, 0).with_salt(2_027),
     ];
     for (i, &s) in all.iter().enumerate() {
         let table = cells(&mut mix, s, Cells::Random(60));
@@ -1492,7 +1680,7 @@ fn files_of_other_lists() {
     assert!(count("refused 15: ") > 9 && count("refused 11: ") > 9);
     assert!(count("unpacked, ") > all.len());
     assert!(answers[0].starts_with("loaded, "));
-    assert!(answers[0].ends_with(" entries, rule 0, width 12, buckets 8, mask 0"));
+    assert!(answers[0].ends_with(" entries, rule 0, width 12, buckets 8, mask 0, salt 0"));
     assert!(answers[12 * 3 + 3].starts_with("unpacked, "));
     assert!(answers[12 * 5 + 3].starts_with("unpacked, "));
 }
@@ -1504,7 +1692,7 @@ fn damaged_files() {
     let mut mix = mix(name);
     let folder = Folder::new(name);
     let s = Settings::new(RING, 11, 10, 0);
-    let mut script = format!("settings {}\n", numbers(s));
+    let mut script = format!("settings {}\n", four(s));
     for i in 0..36 {
         script += &format!("hold {i}\n");
     }
@@ -1637,7 +1825,7 @@ fn unfinished_files() {
                     line 6: cannot write ten: unfinished files are in the way, of the same name with .tmp0 to .tmp9\n\
                     entries 1, buckets 8, load 3.1 %, longest relocation 0\n\
                     saved, 13 bytes\nline 9: cannot write folder: it is a folder\n\
-                    saved, 13 bytes\nloaded, 1 entry, rule 0, width 12, buckets 8, mask 0\n";
+                    saved, 13 bytes\nloaded, 1 entry, rule 0, width 12, buckets 8, mask 0, salt 0\n";
     assert_eq!(String::from_utf8_lossy(&got), expected);
     assert!(link.is_symlink() && !folder.path("elsewhere").exists());
     fs::remove_file(link).expect("a link");
@@ -1780,7 +1968,7 @@ fn long_arguments() {
         "line 5: what stands after 0x",
         "bucket 7: 0 0 0 0",
         "line 7: the bucket is not a number",
-        "line 8: settings takes four numbers and no more",
+        "line 8: settings takes four numbers and a salt, and no more",
         "clear",
         "line 10: there is no such command",
     ];

@@ -101,9 +101,11 @@ fn written_again() {
     for (line, written) in [
         ("clear", true),
         ("settings 0 12 8 0", true),
+        ("settings 0 12 8 0 0x2a", true),
         ("load good", true),
         ("unpack packed", true),
         ("settings 0 12 7 0", false),
+        ("settings 0 12 8 0 no", false),
         ("settings", false),
         ("hold b", false),
         ("load missing", false),

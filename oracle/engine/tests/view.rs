@@ -1,6 +1,7 @@
 //! The bucket view: which cells it hands back, by their place and by their values. It has a boundary
-//! that only this test uses, `crates/test_view`, which tells a view cell by cell. So a place is told by
-//! cells of which no two buckets have the same, and by a cell that is changed between two views.
+//! that only this test uses, `crates/test_view`, which tells a view cell by cell, and takes no salt: a
+//! view has no use for one. So a place is told by cells of which no two buckets have the same, and by a
+//! cell that is changed between two views.
 
 use engine::boundary::Engine;
 use engine::make::{cells, long, one_of, settings, spoil, Cells};
@@ -78,24 +79,9 @@ fn every_bucket(mix: &mut Mix, s: Settings, lent: &[u16], seen: &mut Seen) {
 }
 
 const LARGEST: [Settings; 3] = [
-    Settings {
-        rule: PLAIN,
-        width: 16,
-        buckets: 65_536,
-        mask: 0,
-    },
-    Settings {
-        rule: RING,
-        width: 12,
-        buckets: 65_534,
-        mask: 0,
-    },
-    Settings {
-        rule: MASKED,
-        width: 4,
-        buckets: 65_536,
-        mask: 0xff,
-    },
+    Settings::new(PLAIN, 16, 65_536, 0),
+    Settings::new(RING, 12, 65_534, 0),
+    Settings::new(MASKED, 4, 65_536, 0xff),
 ];
 
 #[test]

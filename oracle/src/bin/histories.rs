@@ -4,7 +4,7 @@
 //! input and writes each with its answer. A request acts on what those before it left.
 
 use oracle::index::{fnv1a, Answer, Settings, MASKED, PLAIN, RING};
-use oracle::requests::{from_hex, listed, numbers, run, shown, to_hex, Mix};
+use oracle::requests::{self, from_hex, listed, numbers, run, shown, to_hex, Mix, SALTS};
 use oracle::table;
 use std::io;
 
@@ -147,9 +147,9 @@ impl State {
             |yes: &str, no: &str, answer| shown(answer, |b| if b { yes } else { no }.to_string());
         match fields[0] {
             "open" => {
-                self.settings = Settings::new(number(1), number(2), number(3), number(4));
-                self.lent_cells = CELLS.min(number(5) as usize);
-                self.lent_words = WORDS.min(number(6) as usize);
+                self.settings = requests::settings(&fields);
+                self.lent_cells = CELLS.min(number(6) as usize);
+                self.lent_words = WORDS.min(number(7) as usize);
                 "open".to_string()
             }
             "dirt" => {
@@ -538,6 +538,43 @@ impl Script {
         self.large(Settings::new(RING, 12, 65_534, 0), None);
         self.large(Settings::new(MASKED, 12, 65_536, 21_845), None);
     }
+
+    /// Holds under one salt that another does not find, but by chance, and the first one still does.
+    fn other_salt(&mut self, s: Settings, salt: u64) {
+        self.fresh(s.with_salt(salt));
+        let tags: Vec<Vec<u8>> = (0..6).map(|_| self.mix.bytes(5)).collect();
+        for tag in &tags {
+            self.call("hold", tag);
+        }
+        let words = 2 * s.buckets;
+        for other in [0, !salt, salt] {
+            self.open(s.with_salt(other), 4 * s.buckets, words);
+            for tag in &tags {
+                self.call("lookup", tag);
+            }
+        }
+        self.call("release", &tags[0]);
+        self.cells();
+    }
+
+    /// Some of all this under salts.
+    fn all_salted(&mut self) {
+        for (i, salt) in SALTS.into_iter().enumerate() {
+            let s = [
+                Settings::new(PLAIN, 12, 4, 0),
+                Settings::new(RING, 12, 6, 0),
+                Settings::new(MASKED, 12, 4, 2),
+            ][i % 3]
+                .with_salt(salt);
+            self.history(s, 100_000);
+            self.other_salt(s, salt);
+        }
+        let salt = self.mix.draw();
+        self.large(Settings::new(PLAIN, 16, 1_024, 0).with_salt(1), Some(10));
+        self.large(Settings::new(RING, 12, 1_000, 0).with_salt(salt), Some(10));
+        let masked = Settings::new(MASKED, 4, 64, 21);
+        self.large(masked.with_salt(u64::MAX), Some(10));
+    }
 }
 
 /// Masks at the edges and in the middle of a bucket count, each once.
@@ -561,6 +598,7 @@ fn requests() -> Vec<String> {
     script.all_small();
     script.all_raw();
     script.all_large();
+    script.all_salted();
     script.lines
 }
 
@@ -586,7 +624,7 @@ mod tests {
         let mut state = State::new();
         for (request, answer) in [
             ("clear", "refused 2"),
-            ("open 0 12 1 0 4 2", "open"),
+            ("open 0 12 1 0 0 4 2", "open"),
             ("clear", "cleared"),
             ("dirt 4294967295", "dirt"),
             ("set 1 65535", "set"),
@@ -608,9 +646,24 @@ mod tests {
                 "holds 5 0",
                 "accepted 0 refused 0 moves 0 longest 0 hash cbf29ce484222325",
             ),
-            ("open 0 12 32 0 128 0", "open"),
+            ("open 0 12 32 0 0 128 0", "open"),
             ("hold 61", "refused 6"),
             ("cells", "88053d13d8560a3b"),
+            ("open 0 12 1 0 1 4 2", "open"),
+            ("clear", "cleared"),
+            ("hold 61", "accepted 0"),
+            ("cells", "3647 0 0 0"),
+            ("lookup 61", "copies 1"),
+            ("lookup 60", "copies 0"),
+            ("open 0 12 1 0 0 4 2", "open"),
+            ("lookup 61", "copies 0"),
+            // The salt turns over what tells the two bytes apart.
+            ("hold 60", "accepted 0"),
+            ("open 0 12 1 0 1 4 2", "open"),
+            ("lookup 61", "copies 2"),
+            ("open 0 12 1 0 ffffffffffffffff 4 2", "open"),
+            ("hold 61", "accepted 0"),
+            ("view 0", "3647 3647 449 0"),
         ] {
             assert_eq!(state.answer(request), answer, "{request}");
         }

@@ -5,7 +5,7 @@
 
 use oracle::fnv_strings::KNOWN;
 use oracle::index::{self, Settings, MASKED, PLAIN, RING};
-use oracle::requests::{from_hex, listed, numbers, run, shown, to_hex, Mix};
+use oracle::requests::{self, from_hex, listed, numbers, run, shown, to_hex, Mix, SALTS};
 use std::collections::HashSet;
 use std::io;
 
@@ -274,6 +274,55 @@ fn candidates_of(out: &mut Requests, mix: &mut Mix, s: Settings) {
     }
 }
 
+/// The same four requests under salts.
+fn salted_requests(out: &mut Requests, mix: &mut Mix) {
+    let good = [
+        Settings::new(PLAIN, 12, 4_096, 0),
+        Settings::new(PLAIN, 16, 65_536, 0),
+        Settings::new(RING, 16, 65_534, 0),
+        Settings::new(RING, 12, 6, 0),
+        Settings::new(MASKED, 4, 1_024, 77),
+    ];
+    for s in mixed_settings() {
+        if s.check().is_err() {
+            out.settings(s.with_salt(u64::MAX));
+            out.tag(s.with_salt(1), b"foobar");
+        }
+    }
+    for salt in SALTS {
+        for s in good.map(|s| s.with_salt(salt)) {
+            out.settings(s);
+            for tag in [&b""[..], b"a", b"`", b"foobar", &[0], &[0xff; 9]] {
+                out.tag(s, tag);
+            }
+            let tag = mix.bytes(15);
+            out.tag(s, &tag);
+            // No offset or candidate changes with the salt.
+            for value in [1, 3_212, u16::MAX] {
+                out.offset(s, value);
+                out.candidates(s, value, 5);
+            }
+            out.candidates(s, 1, s.buckets);
+        }
+        for length in [63, 64, 65] {
+            let tag = mix.bytes(length);
+            out.tag(good[0].with_salt(salt), &tag);
+        }
+    }
+    // Any salts, so that every digit of a request has every value.
+    for _ in 0..60 {
+        let s = good[mix.below(5) as usize].with_salt(mix.draw() >> mix.below(64));
+        let length = 1 + mix.below(20) as usize;
+        let tag = mix.bytes(length);
+        out.tag(s, &tag);
+    }
+    // From 0 on, bytes of 0 leave the hash at 0: the fingerprint is 1, and so it is at every width.
+    for width in 4..=16 {
+        let s = Settings::new(PLAIN, width, 4_096, 0).with_salt(index::FNV_START);
+        out.tag(s, &[0; 64]);
+    }
+}
+
 fn requests() -> Vec<String> {
     let mut out = Requests::default();
     let mut mix = Mix(1);
@@ -282,6 +331,7 @@ fn requests() -> Vec<String> {
     tag_requests(&mut out, &mut mix);
     offset_requests(&mut out, &mut mix);
     candidates_requests(&mut out, &mut mix);
+    salted_requests(&mut out, &mut mix);
     out.lines
 }
 
@@ -289,16 +339,16 @@ fn answer(request: &str) -> String {
     let fields: Vec<&str> = request.split(' ').collect();
     let number = |i: usize| -> u32 { fields[i].parse().expect("a number") };
     let value = |i: usize| -> u16 { fields[i].parse().expect("a 16-bit number") };
-    let settings = || Settings::new(number(1), number(2), number(3), number(4));
+    let settings = || requests::settings(&fields);
     match fields[0] {
         "hash" => format!("{:016x}", index::fnv1a(&from_hex(fields[1]))),
         "settings" => shown(settings().check(), |()| "good".to_string()),
         "tag" => shown(
-            index::entry(settings(), &from_hex(fields[5])),
+            index::entry(settings(), &from_hex(fields[6])),
             |(fingerprint, home)| format!("{fingerprint} {home}"),
         ),
-        "offset" => shown(index::offset(settings(), value(5)), |d| d.to_string()),
-        "candidates" => shown(index::candidates(settings(), value(5), number(6)), |list| {
+        "offset" => shown(index::offset(settings(), value(6)), |d| d.to_string()),
+        "candidates" => shown(index::candidates(settings(), value(6), number(7)), |list| {
             listed(&list)
         }),
         kind => panic!("no such request: {kind}"),
@@ -325,12 +375,18 @@ mod tests {
     fn answers_as_text() {
         assert_eq!(answer("hash "), "cbf29ce484222325");
         assert_eq!(answer("hash 666f6f626172"), "85944171f73967e8");
-        assert_eq!(answer("settings 1 12 6 0"), "good");
-        assert_eq!(answer("settings 0 12 6 0"), "refused 3");
-        assert_eq!(answer("tag 0 12 4096 0 61"), "3212 3148");
-        assert_eq!(answer("tag 0 12 4096 0 "), "refused 7");
-        assert_eq!(answer("offset 0 12 1 0 65535"), "0");
-        assert_eq!(answer("candidates 1 12 2 0 9 1"), "1 0");
-        assert_eq!(answer("candidates 1 12 2 0 9 2"), "refused 8");
+        assert_eq!(answer("settings 1 12 6 0 0"), "good");
+        assert_eq!(answer("settings 1 12 6 0 ffffffffffffffff"), "good");
+        assert_eq!(answer("settings 0 12 6 0 0"), "refused 3");
+        assert_eq!(answer("tag 0 12 4096 0 0 61"), "3212 3148");
+        assert_eq!(answer("tag 0 12 4096 0 0 "), "refused 7");
+        assert_eq!(answer("tag 0 12 4096 0 1 61"), "3647 3404");
+        assert_eq!(answer("tag 0 12 4096 0 123456789abcdef 61"), "3217 1200");
+        assert_eq!(answer("tag 0 12 4096 0 cbf29ce484222325 00"), "1 0");
+        assert_eq!(answer("offset 0 12 1 0 0 65535"), "0");
+        assert_eq!(answer("offset 0 12 4096 0 1 3212"), "2629");
+        assert_eq!(answer("candidates 1 12 2 0 0 9 1"), "1 0");
+        assert_eq!(answer("candidates 1 12 2 0 0 9 2"), "refused 8");
+        assert_eq!(answer("candidates 0 12 4096 0 1 3212 3148"), "3148 1545");
     }
 }

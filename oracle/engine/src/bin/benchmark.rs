@@ -81,7 +81,7 @@ impl Side {
     #[inline(never)]
     fn file_read(self, bytes: &[u8], cells: &mut [u16]) -> i64 {
         match self {
-            Side::Engine => ENGINE.file_read(bytes, cells, &mut [0; 4]),
+            Side::Engine => ENGINE.file_read(bytes, cells, &mut [0; 6]),
             Side::Other => signed(holdfile::read(bytes, cells), |_| 0),
             Side::BranchFree => signed(branch_free::read(bytes, cells), |_| 0),
             Side::Fast => signed(fast::holdfile::read(bytes, cells), |_| 0),
