@@ -64,6 +64,19 @@ fn tags() {
             }
         }
     }
+    // Each refusal of settings before that of the tag, whatever the random ones were.
+    for bad in [
+        Settings::new(3, 12, 8, 0),
+        Settings::new(PLAIN, 3, 8, 0),
+        Settings::new(RING, 12, 7, 0),
+        Settings::new(MASKED, 12, 8, 8),
+    ] {
+        for length in [0, 1, 64, 65] {
+            let (tag, salt) = (pair.mix.bytes(length), salt(&mut pair.mix));
+            pair.run(Lend::of(bad.with_salt(salt)), Call::Fingerprint(&tag));
+            pair.run(Lend::of(bad.with_salt(salt)), Call::Home(&tag));
+        }
+    }
     // A hash whose low bits are 0 has the fingerprint 1.
     let narrow = Lend::of(Settings::new(PLAIN, 4, 1, 0));
     let ones = (0..=u8::MAX)
@@ -142,8 +155,8 @@ fn bits_of_a_salt() {
             let (one, other) = (entry(salt), entry(salt ^ 1 << bit));
             let (fingerprints, homes) = (one.0 ^ other.0, one.1 ^ other.1);
             match bit {
-                // 0 and 1 are one fingerprint.
-                0 if one.0 == 1 && other.0 == 1 => {}
+                // A fingerprint of 1 may be that of a hash whose low bits are 0.
+                0..=15 if one.0 == 1 || other.0 == 1 => {}
                 0..=15 => assert_eq!(fingerprints.trailing_zeros(), bit, "{salt:x}"),
                 16..=31 => assert_eq!(fingerprints, 0, "{salt:x}"),
                 32..=47 => {
