@@ -102,7 +102,8 @@ accepted bytes t c s all e =
     let p = parts bytes t c s e in
     let k = header-back bytes s (p .rest) all (p .first) in
     let m = buckets-back (s .width) (s .buckets) (p .rest) c [] (k .back .left) (p .buckets) in
-    record { types = k .types; sound = record { settings = p .sound .settings; size = m .long }; small = m .small; same = ap (λ (x : List ℕ). header s ++ x) (sym (append-nil (body c)) ∙ m .same) ∙ k .back .same }
+    let same : fileOf s c ≡ bytes = ap (λ (x : List ℕ). header s ++ x) (sym (append-nil (body c)) ∙ m .same) ∙ k .back .same in
+    record { types = k .types; sound = record { settings = p .sound .settings; size = m .long }; small = m .small; same = same }
 
 -- the writer refuses nothing of what was accepted
 makes : (bytes t c out : List ℕ) (s : Settings) → AllBytes bytes → readFile bytes t ≡ outcome (given s) c → length bytes ≤ length out

@@ -51,7 +51,8 @@ module _ {B : Type 0} (n d : ℕ) where
   last-absent (n₀ ∷ ns) [] m l g h e b same = absurd (omega arith)
   last-absent (n₀ ∷ ns) (d₀ ∷ ds) m l g h e b same =
       first-field n₀ m d₀ (ns ++ (n ∷ [])) (ds ++ (d ∷ [])) l g
-      ∙ alike (field (bit 0 m) d₀ (takeNumber n₀) l) _ _ (λ v r. last-absent ns ds (m / 2) r (λ vs end. g (v ∷ vs) end) (λ vs end. h (v ∷ vs) end) (omega arith) b (λ vs rest k. same (v ∷ vs) rest (ap suc k)))
+      ∙ alike (field (bit 0 m) d₀ (takeNumber n₀) l) _ _ (λ v r.
+      last-absent ns ds (m / 2) r (λ vs end. g (v ∷ vs) end) (λ vs end. h (v ∷ vs) end) (omega arith) b (λ vs rest k. same (v ∷ vs) rest (ap suc k)))
       ∙ sym (first-field n₀ m d₀ ns ds l h)
 
 -- ── read ──
