@@ -29,7 +29,7 @@ impl Mix {
     }
 }
 
-/// Settings as a request names them: the salt last, in hexadecimal digits.
+/// Settings as a request names them, the salt last.
 pub fn numbers(s: Settings) -> String {
     let Settings {
         rule,
@@ -38,13 +38,13 @@ pub fn numbers(s: Settings) -> String {
         mask,
         salt,
     } = s;
-    format!("{rule} {width} {buckets} {mask} {salt:x}")
+    format!("{rule} {width} {buckets} {mask} {salt}")
 }
 
 /// The settings that the fields of a request from the second on name.
 pub fn settings(fields: &[&str]) -> Settings {
     let number = |i: usize| -> u32 { fields[i].parse().expect("a number") };
-    let salt = u64::from_str_radix(fields[5], 16).expect("hexadecimal digits");
+    let salt: u64 = fields[5].parse().expect("a salt");
     Settings::new(number(1), number(2), number(3), number(4)).with_salt(salt)
 }
 

@@ -42,7 +42,7 @@ fingerprintOf s h = notZero (h % 2 ^ s .width)
 unfoldable pub homeOf : Settings → ℕ → ℕ
 homeOf s h = h / 2 ^ 32 % modulus s
 
--- the hash of a tag: the salt changes where it starts, so that tags that share an entry in one season do not in the next
+-- the hash of a tag: the salt changes where it starts, and with it which tags share an entry
 unfoldable pub tagHash : ℕ → List ℕ → ℕ
 tagHash salt tag = fnvFrom (bitXor fnvStart salt) tag
 

@@ -13,8 +13,8 @@
 //     releases SEED COUNT
 //     lookups SEED COUNT
 //     cells                       all cells that are lent, or their hash where they are many
-//
-// SALT is in hexadecimal digits.
+use digits::Typed;
+use digits::hex_value;
 use libc::STDIN_FILENO;
 use libc::STDOUT_FILENO;
 ghost use mathlib.Core.Path.{_≡_};
@@ -75,62 +75,22 @@ fn past(s: &[u8], end: usize) -> usize
     if end < s.len() { end + 1 } else { end }
 }
 
-// The value of a digit of base 16, so of base 10 too. No request has another byte in a number.
-fn digit(b: u8) -> u8 {
-    if b < b'0' {
-        0
-    } else if b <= b'9' {
-        b - b'0'
-    } else if b < b'a' {
-        0
-    } else if b <= b'f' {
-        b - b'a' + 10
-    } else {
-        0
+// The number that a field is. No request has one that is none.
+fn value_of(field: &[u8]) -> u64 {
+    match digits::decimal(field, 18446744073709551615) {
+        Typed::Number(n) => n,
+        Typed::None => 0,
     }
-}
-
-// n with one more digit. A decimal number past 32 bits stays as it is, so that none wraps; of more than sixteen
-// hexadecimal digits the last ones count.
-fn with_digit(n: u64, b: u8, hexadecimal: bool) -> u64 {
-    if hexadecimal {
-        n << 4 | digit(b) as u64
-    } else if n > 4294967295 {
-        n
-    } else {
-        n * 10 + digit(b) as u64
-    }
-}
-
-fn digits_at(s: &[u8], at: usize, hexadecimal: bool) -> Number
-    requires { ⌜ at ≤ length (now s) ⌝ }
-    ensures { λ r. ⌜ r .next ≤ length (now (s .entry)) ⌝ }
-{
-    let mut value = 0u64;
-    let mut i = at;
-    while i < s.len() {
-        let b = s[i];
-        i += 1;
-        if b == b' ' {
-            return Number { value, next: i };
-        }
-        value = with_digit(value, b, hexadecimal);
-    }
-    Number { value, next: i }
 }
 
 fn number_at(s: &[u8], at: usize) -> Number
     requires { ⌜ at ≤ length (now s) ⌝ }
     ensures { λ r. ⌜ r .next ≤ length (now (s .entry)) ⌝ }
 {
-    digits_at(s, at, false)
-}
-
-fn salt_at(s: &[u8], at: usize) -> Number
-    requires { ⌜ at ≤ length (now s) ⌝ }
-    ensures { λ r. ⌜ r .next ≤ length (now (s .entry)) ⌝ }
-{
-    digits_at(s, at, true)
+    let end = find(s, at, b' ');
+    let value = value_of(&s[at..end]);
+    let next = if end < s.len() { end + 1 } else { end };
+    Number { value, next }
 }
 
 fn to_u32(n: u64) -> u32 {
@@ -171,7 +131,7 @@ fn bytes_at(s: &[u8], at: usize, out: &mut [u8]) -> usize
         if s.len() - i < 2 {
             return n;
         }
-        out[n] = digit(s[i]) << 4 | digit(s[i + 1]);
+        out[n] = hex_value(s[i]) << 4 | hex_value(s[i + 1]);
         n += 1;
         i += 2;
     }
@@ -239,7 +199,7 @@ fn lent_at(s: &[u8], at: usize) -> Lent
     let width = number_at(s, rule.next);
     let buckets = number_at(s, width.next);
     let mask = number_at(s, buckets.next);
-    let salt = salt_at(s, mask.next);
+    let salt = number_at(s, mask.next);
     let cells = number_at(s, salt.next);
     let words = number_at(s, cells.next);
     Lent {

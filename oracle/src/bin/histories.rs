@@ -661,7 +661,7 @@ mod tests {
             ("hold 60", "accepted 0"),
             ("open 0 12 1 0 1 4 2", "open"),
             ("lookup 61", "copies 2"),
-            ("open 0 12 1 0 ffffffffffffffff 4 2", "open"),
+            ("open 0 12 1 0 18446744073709551615 4 2", "open"),
             ("hold 61", "accepted 0"),
             ("view 0", "3647 3647 449 0"),
         ] {

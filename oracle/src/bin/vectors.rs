@@ -376,13 +376,13 @@ mod tests {
         assert_eq!(answer("hash "), "cbf29ce484222325");
         assert_eq!(answer("hash 666f6f626172"), "85944171f73967e8");
         assert_eq!(answer("settings 1 12 6 0 0"), "good");
-        assert_eq!(answer("settings 1 12 6 0 ffffffffffffffff"), "good");
+        assert_eq!(answer("settings 1 12 6 0 18446744073709551615"), "good");
         assert_eq!(answer("settings 0 12 6 0 0"), "refused 3");
         assert_eq!(answer("tag 0 12 4096 0 0 61"), "3212 3148");
         assert_eq!(answer("tag 0 12 4096 0 0 "), "refused 7");
         assert_eq!(answer("tag 0 12 4096 0 1 61"), "3647 3404");
-        assert_eq!(answer("tag 0 12 4096 0 123456789abcdef 61"), "3217 1200");
-        assert_eq!(answer("tag 0 12 4096 0 cbf29ce484222325 00"), "1 0");
+        assert_eq!(answer("tag 0 12 4096 0 81985529216486895 61"), "3217 1200");
+        assert_eq!(answer("tag 0 12 4096 0 14695981039346656037 00"), "1 0");
         assert_eq!(answer("offset 0 12 1 0 0 65535"), "0");
         assert_eq!(answer("offset 0 12 4096 0 1 3212"), "2629");
         assert_eq!(answer("candidates 1 12 2 0 0 9 1"), "1 0");
