@@ -35,4 +35,4 @@ salted-fits = record { rule = omega arith; width = omega arith; buckets = omega 
 
 pub examples-hold : AllYield examples
 unfolding examples half across coMask xorSteps othersBy powerOfTwo settingsChecks modulus fnvStep fnvFrom fnv1a tagHash fingerprintOf homeOf fingerprint home tagChecks offset others candidates lowestEmpty leadsTo searchFrom searchFor tableChecks scratchChecks fresh holdChecks holdIn hold fileOf header body rows rowOf sortBuckets codeOf bucketBits streamOf packedLength packedOf
-examples-hold = (refl, (refl, (refl, (refl, (refl, (refl, (refl, (refl, (filed _ _ _ refl small-fits refl refl refl, (filed _ _ _ refl salted-fits refl refl refl, (refl, (refl, (refl, (refl, (refl, (refl, tt))))))))))))))))
+examples-hold = (refl, (refl, (refl, (refl, (refl, (refl, (refl, (refl, (refl, (filed _ _ _ refl small-fits refl refl refl, (filed _ _ _ refl salted-fits refl refl refl, (refl, (refl, (refl, (refl, (refl, (refl, tt)))))))))))))))))

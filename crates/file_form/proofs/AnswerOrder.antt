@@ -1,7 +1,7 @@
 -- Which number a file is answered with where several things are wrong.
 -- Assumes nothing.
 use mathlib.Core.Path.{_≡_, refl, ap, _∙_}
-use mathlib.Core.Bool.{Bool, true, false, cond, _||_}
+use mathlib.Core.Bool.{Bool, true, false, cond, not, _||_}
 use mathlib.Core.Option.{Option, none, some}
 use mathlib.Core.List.{List, [], _∷_, _++_}
 use Prim.Native.Nat.{ℕ, zero, suc, _+_, _*_, _/_, _^_, _≤_, _<_}
@@ -43,17 +43,26 @@ unfolding readHeader
 no-byte = refl
 
 module _ (map : ℕ) (rest : List ℕ) where
-  upper : 32 ≤ map → readHeader (map ∷ rest) ≡ stop 12
-  unfolding readHeader afterMap mapChecks
-  upper h = ap (λ (o : Option ℕ). checked o (readFields map rest)) (met (start (mapChecks map)) (le-leb 32 map h))
-
-  passes : map < 32 → firstMet (mapChecks map) ≡ none
-  unfolding mapChecks
-  passes h = none-left (passed (start (mapChecks map)) (lt-leb 32 map h))
-
-  lower : map < 32 → (n : ℕ) → readFields map rest ≡ stop n → readHeader (map ∷ rest) ≡ stop n
+  by-map : (n : ℕ) → firstMet (mapChecks map) ≡ some n → readHeader (map ∷ rest) ≡ stop n
   unfolding readHeader afterMap
-  lower h n e = ap (λ (o : Option ℕ). checked o (readFields map rest)) (passes h) ∙ e
+  by-map n e = ap (λ (o : Option ℕ). checked o (readFields map rest)) e
+
+  upper : 64 ≤ map → readHeader (map ∷ rest) ≡ stop 12
+  unfolding mapChecks
+  upper h = by-map 12 (met (start (mapChecks map)) (le-leb 64 map h))
+
+  module _ (h : map < 64) where
+    uneven : bit 5 map ≡ false → readHeader (map ∷ rest) ≡ stop 23
+    unfolding mapChecks
+    uneven b = by-map 23 (met (passed (start (mapChecks map)) (lt-leb 64 map h)) (ap not b))
+
+    passes : bit 5 map ≡ true → firstMet (mapChecks map) ≡ none
+    unfolding mapChecks
+    passes b = none-left (passed (passed (start (mapChecks map)) (lt-leb 64 map h)) (ap not b))
+
+    lower : bit 5 map ≡ true → (n : ℕ) → readFields map rest ≡ stop n → readHeader (map ∷ rest) ≡ stop n
+    unfolding readHeader afterMap
+    lower b n e = ap (λ (o : Option ℕ). checked o (readFields map rest)) (passes b) ∙ e
 
 -- a number of which not every byte is there, and one that is whole
 cut-number : (n : ℕ) (l : List ℕ) → length l < n → takeNumber n l ≡ stop 11
@@ -78,15 +87,15 @@ short (n ∷ ns) m (d ∷ ds) l e h = go (bit 0 m) refl (λ k g. short ns (m / 2
           (more (drop n l) (omega (arith, length-drop n l, g, ap (λ (t : Bool). cond t n 0) q)))
     ]
 
-module _ (map : ℕ) (rest : List ℕ) (h : map < 32) where
+module _ (map : ℕ) (rest : List ℕ) (h : map < 64) (b : bit 5 map ≡ true) where
   cut : length rest < fieldsLength sizes map → readHeader (map ∷ rest) ≡ stop 11
   unfolding readFields
-  cut l = lower map rest h 11 (stopped (takeFields sizes map defaults rest) (fitting map) 11 (short sizes map defaults rest refl l))
+  cut l = lower map rest h b 11 (stopped (takeFields sizes map defaults rest) (fitting map) 11 (short sizes map defaults rest refl l))
 
   unfit : (values more : List ℕ) → takeFields sizes map defaults rest ≡ next values more → anyOf (misfits map (settingsFrom values)) ≡ true → readHeader (map ∷ rest) ≡ stop 12
   unfolding readFields fitting misfit
   unfit values more e q =
-      lower map rest h 12
+      lower map rest h b 12
       (onward (takeFields sizes map defaults rest) (fitting map) values more e
       ∙ ap (λ (t : Bool). refuseIf t 12 (next (settingsFrom values) more)) q)
 
@@ -177,8 +186,9 @@ pub answer-order : AnswerOrder
 answer-order = record {
   no-byte = λ c. by-header [] c 11 no-byte;
   map-bits = λ m rest c h. by-header (m ∷ rest) c 12 (upper m rest h);
-  fields = λ m rest c h l. by-header (m ∷ rest) c 11 (cut m rest h l);
-  misfits = λ m rest c values more h e q. by-header (m ∷ rest) c 12 (unfit m rest h values more e q);
+  uneven = λ m rest c h b. by-header (m ∷ rest) c 23 (uneven m rest h b);
+  fields = λ m rest c h b l. by-header (m ∷ rest) c 11 (cut m rest h b l);
+  misfits = λ m rest c values more h b e q. by-header (m ∷ rest) c 12 (unfit m rest h b values more e q);
   settings = λ bytes c rest s n head e. by-check bytes c rest s head n (table-check-laws s c .by-settings n e);
   table = λ bytes c rest s head e h. by-check bytes c rest s head 5 (table-check-laws s c .by-size e h);
   buckets = λ bytes c rest cells at s k n head S h e b. by-bucket bytes c rest s head S cells at k n h e b;

@@ -28,6 +28,11 @@ module _ (b : Bool) (bs : List Bool) where
   pub half-from : fromBits (b ∷ bs) / 2 ≡ fromBits bs
   half-from = omega (arith, one-le b)
 
+-- any bit of it
+pub bit-at : (front : List Bool) (b : Bool) (bs : List Bool) → bit (length front) (fromBits (front ++ (b ∷ bs))) ≡ b
+bit-at [] b bs = bit-from b bs
+bit-at (a ∷ front) b bs = ap (bit (length front)) (half-from a (front ++ (b ∷ bs))) ∙ bit-at front b bs
+
 pub from-low : (bs : List Bool) → fromBits bs < 2 ^ length bs
 from-low [] = omega arith
 from-low (b ∷ bs) = omega (arith, one-le b, from-low bs, pow-suc 2 (length bs))

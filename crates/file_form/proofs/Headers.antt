@@ -8,7 +8,7 @@ use Prim.Native.Nat.{ℕ, _+_, _-_, _^_, _<_}
 use native.Mathlib.Omega.{arith}
 use borrow.Author.Tests.{eq-eqb, eqb-true, eqb-false, leb-false, lt-leb, not-false}
 use lib.Dec.{eqb, leb}
-use lib.ListN.{length, getD}
+use lib.ListN.{length, take, getD}
 use Rattle.lemmas.specs.Bytes.{AllBytes}
 use Rattle.refusals.specs.Checks.{check, firstMet}
 use Rattle.refusals.proofs.Cursor.{start, passed, none-left, not-met}
@@ -17,12 +17,12 @@ use Rattle.index.specs.declared.Settings.{Settings}
 use Rattle.index.specs.Laws.{Laws}
 use Rattle.index.proofs.Laws.{laws}
 use Rattle.file_form.specs.Parsed.{next, refuseIf, checked}
-use Rattle.file_form.specs.Fields.{spelled, Fit, fieldBytes, takeFields}
+use Rattle.file_form.specs.Fields.{bit, spelled, Fit, fieldBytes, takeFields}
 use Rattle.file_form.specs.Header.{sizes, valuesOf, settingsFrom, defaults, standing, mapOf, mapChecks, misfits, misfit}
 use Rattle.file_form.specs.Writer.{header}
 use Rattle.file_form.specs.Reader.{takeByte, fitting, readFields, afterMap, readHeader}
 use Rattle.file_form.proofs.Parses.{onward, split, same-next, not-refused, not-checked, Back, back-then, byte-back}
-use Rattle.file_form.proofs.Fields.{from-low, Defaulted, Absent, absent-defaulted, fit-length, spelled-same, fields-read, fields-back, differ, Differing, differing-map}
+use Rattle.file_form.proofs.Fields.{bit-at, from-low, Defaulted, Absent, absent-defaulted, fit-length, spelled-same, fields-read, fields-back, differ, Differing, differing-map}
 
 -- ── what is to be said of each field ──
 absent : (x d : ℕ) → not (eqb x d) ≡ false → x ≡ d
@@ -65,24 +65,40 @@ needless : (t : Bool) (x d : ℕ) → (t ≡ false → x ≡ d) → (t && eqb x 
 needless true x d e = sym (Bool·not-not (eqb x d))
 needless false x d e = sym (ap not (eq-eqb x d (e refl)))
 
-differing : (m : ℕ) (vs : List ℕ) → Defaulted m defaults (spelled (length sizes) (λ i. getD vs i 0)) → Differing m (standing (settingsFrom vs)) (misfits m (settingsFrom vs))
-differing m vs d = (needless _ _ _ (d .0), (needless _ _ _ (d .1 .0), (needless _ _ _ (λ h. ap (λ (x : ℕ). x + 1) (d .1 .1 .0 h)), (refl, (needless _ _ _ (d .1 .1 .1 .1 .0), tt)))))
+-- bit 5, which stands, does not
+differing : (m : ℕ) (vs : List ℕ) → bit 5 m ≡ true → Defaulted m defaults (spelled (length sizes) (λ i. getD vs i 0))
+    → Differing m (standing (settingsFrom vs)) (misfits m (settingsFrom vs) ++ (false ∷ []))
+differing m vs b d = (
+  needless _ _ _ (d .0),
+  (
+    needless _ _ _ (d .1 .0),
+    (needless _ _ _ (λ h. ap (λ (x : ℕ). x + 1) (d .1 .1 .0 h)), (refl, (needless _ _ _ (d .1 .1 .1 .1 .0), (sym (ap (λ (t : Bool). differ t true) b), tt)))),
+  ),
+)
 
 -- ── the map ──
-map-low : (m : ℕ) → firstMet (mapChecks m) ≡ none → m < 2 ^ length (standing defaultSettings)
-unfolding mapChecks
-map-low m e = leb-false 32 m (not-met (check 12 (leb 32 m)) [] e .0)
+module _ (m : ℕ) (e : firstMet (mapChecks m) ≡ none) where
+  unmet : firstMet (check 23 (not (bit 5 m)) ∷ []) ≡ none
+  unfolding mapChecks
+  unmet = not-met (check 12 (leb 64 m)) (check 23 (not (bit 5 m)) ∷ []) e .1
 
-map-passes : (m : ℕ) → m < 2 ^ length (standing defaultSettings) → firstMet (mapChecks m) ≡ none
+  map-low : m < 2 ^ length (standing defaultSettings)
+  unfolding mapChecks
+  map-low = leb-false 64 m (not-met (check 12 (leb 64 m)) (check 23 (not (bit 5 m)) ∷ []) e .0)
+
+  map-even : bit 5 m ≡ true
+  map-even = not-false (bit 5 m) (not-met (check 23 (not (bit 5 m))) [] unmet .0)
+
+map-passes : (m : ℕ) → m < 2 ^ length (standing defaultSettings) → bit 5 m ≡ true → firstMet (mapChecks m) ≡ none
 unfolding mapChecks
-map-passes m h = none-left (passed (start (check 12 (leb 32 m) ∷ [])) (lt-leb 32 m h))
+map-passes m h b = none-left (passed (passed (start (mapChecks m)) (lt-leb 64 m h)) (ap not b))
 
 -- the other causes of 12 are one: the map is not the one that the writer makes of the settings that were read
 misfit-map : (m : ℕ) (vs : List ℕ) → firstMet (mapChecks m) ≡ none → Fit sizes vs → Defaulted m defaults vs → misfit m (settingsFrom vs) ≡ not (eqb m (mapOf (settingsFrom vs)))
 unfolding misfit
 misfit-map m vs e h d =
-    differing-map m (standing (settingsFrom vs)) (misfits m (settingsFrom vs)) (map-low m e)
-    (differing m vs (subst (Defaulted m defaults) (sym (spelled-same (length sizes) vs (fit-length sizes vs h))) d))
+    differing-map m (standing (settingsFrom vs)) (misfits m (settingsFrom vs) ++ (false ∷ [])) (map-low m e)
+    (differing m vs (map-even m e) (subst (Defaulted m defaults) (sym (spelled-same (length sizes) vs (fit-length sizes vs h))) d))
 
 -- so that the fields are settled by the map that they make
 pub fitting-map : (m : ℕ) (vs rest : List ℕ) → firstMet (mapChecks m) ≡ none → Fit sizes vs → Defaulted m defaults vs
@@ -93,7 +109,7 @@ fitting-map m vs rest e h d = ap (λ (t : Bool). refuseIf t 12 (next (settingsFr
 -- ── written, then read ──
 module _ (s : Settings) (fits : Representable s) (good-s : settingsRefusal s ≡ none) (rest : List ℕ) where
   passes : firstMet (mapChecks (mapOf s)) ≡ none
-  passes = map-passes (mapOf s) (from-low (standing s))
+  passes = map-passes (mapOf s) (from-low (standing s)) (bit-at (take 5 (standing s)) true [])
 
   defaulted : Defaulted (mapOf s) defaults (valuesOf s)
   defaulted = absent-defaulted (standing s) defaults (valuesOf s) (left-out s good-s)

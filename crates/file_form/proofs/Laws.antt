@@ -50,7 +50,7 @@ in-front-append f g (next c end) = ap (λ (x : List ℕ). next x end) (append-as
 -- ── the header ──
 numbered : (m : ℕ) → Numbered (mapChecks m)
 unfolding mapChecks
-numbered m = (omega arith, tt)
+numbered m = (omega arith, (omega arith, tt))
 
 few : (ns : List ℕ) (k : ℕ) → anyFrom 9 ns ≡ false → getD ns k 0 ≤ 8
 few [] k e = omega arith

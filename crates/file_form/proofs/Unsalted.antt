@@ -1,16 +1,14 @@
 -- A header with one field more reads and writes as before where that field is absent.
 -- Assumes nothing.
-use mathlib.Core.Path.{_≡_, refl, sym, ap, _∙_}
-use mathlib.Core.Bool.{Bool, false}
-use mathlib.Core.Option.{Option}
+use mathlib.Core.Path.{_≡_, refl, sym, ap, ap₂, _∙_}
+use mathlib.Core.Bool.{false}
 use mathlib.Core.List.{List, [], _∷_, _++_}
-use Prim.Native.Nat.{ℕ, suc, _/_, _%_, _<_}
+use Prim.Native.Nat.{ℕ, suc, _+_, _/_, _%_, _<_}
 use native.Mathlib.Omega.{arith}
 use native.Mathlib.Decide.{decLe}
-use borrow.Author.Tests.{le-leb, lt-leb, eqb-false, ne-eqb}
-use lib.Dec.{leb}
+use borrow.Author.Tests.{le-leb, lt-leb, eq-eqb, eqb-false, ne-eqb}
 use lib.ListN.{length}
-use Rattle.refusals.specs.Checks.{check, firstMet}
+use Rattle.refusals.specs.Checks.{firstMet}
 use Rattle.refusals.specs.Outcomes.{keeping}
 use Rattle.index.specs.declared.Settings.{Settings}
 use Rattle.calls.specs.WrittenForms.{written}
@@ -19,7 +17,7 @@ use Rattle.file_form.specs.Fields.{bit, fieldBytes, takeNumber, field, t
 use Rattle.file_form.specs.Header.{sizes, valuesOf, mapOf, mapChecks, misfit}
 use Rattle.file_form.specs.Writer.{header, body, fileOf, writeFile}
 use Rattle.file_form.specs.Reader.{fitting, readFields, afterMap, readHeader, afterHeader, readAll, readFile, named, headerAnswer}
-use Rattle.file_form.specs.Unsalted.{sizes4, valuesOf4, defaults4, standing4, mapOf4, mapChecks4, misfit4, header4, writeFile4, saltBit, UnsaltedFiles}
+use Rattle.file_form.specs.Unsalted.{sizes4, valuesOf4, defaults4, standing4, mapOf4, mapChecks4, misfit4, header4, fileOf4, saltBit, marked, UnsaltedFiles}
 use Rattle.file_form.specs.Unsalted.{fitting4, readFields4, afterMap4, readHeader4, readFile4, headerAnswer4}
 use Rattle.file_form.proofs.Fields.{from-low}
 
@@ -55,62 +53,91 @@ module _ {B : Type 0} (n d : ℕ) where
       last-absent ns ds (m / 2) r (λ vs end. g (v ∷ vs) end) (λ vs end. h (v ∷ vs) end) (omega arith) b (λ vs rest k. same (v ∷ vs) rest (ap suc k)))
       ∙ sym (first-field n₀ m d₀ ns ds l h)
 
+-- ── the mark is above the bits of the fields ──
+module _ (m : ℕ) where
+  mark0 : (m + 32) % 2 ≡ m % 2
+  mark0 = omega arith
+
+  mark1 : (m + 32) / 2 % 2 ≡ m / 2 % 2
+  mark1 = omega arith
+
+  mark2 : (m + 32) / 2 / 2 % 2 ≡ m / 2 / 2 % 2
+  mark2 = omega arith
+
+  mark3 : (m + 32) / 2 / 2 / 2 % 2 ≡ m / 2 / 2 / 2 % 2
+  mark3 = omega arith
+
+  mark4 : bit 4 m ≡ false → bit 4 (m + 32) ≡ false
+  mark4 b = ne-eqb ((m + 32) / 2 / 2 / 2 / 2 % 2) 1 (λ z. eqb-false (m / 2 / 2 / 2 / 2 % 2) 1 b (omega arith))
+
 -- ── read ──
 module _ (m : ℕ) (b : bit 4 m ≡ false) where
-  -- without bit 4 the upper bits are 5 to 7, as when they were 4 to 7
-  limit-same : leb 32 m ≡ leb 16 m
-  limit-same = elim (decLe 16 m) [
-    | yes h ↦ le-leb 32 m (omega (arith, eqb-false (m / 2 / 2 / 2 / 2 % 2) 1 b)) ∙ sym (le-leb 16 m h)
-    | no h ↦ lt-leb 32 m (omega arith) ∙ sym (lt-leb 16 m (omega arith))
-  ]
-
-  checks-same : firstMet (mapChecks m) ≡ firstMet (mapChecks4 m)
-  unfolding mapChecks mapChecks4
-  checks-same = ap (λ (t : Bool). firstMet (check 12 t ∷ [])) limit-same
-
-  fitting-same : (vs rest : List ℕ) → length vs ≡ 4 → fitting m (vs ++ (0 ∷ [])) rest ≡ fitting4 m vs rest
+  fitting-same : (vs rest : List ℕ) → length vs ≡ 4 → fitting (m + 32) (vs ++ (0 ∷ [])) rest ≡ fitting4 m vs rest
   unfolding fitting fitting4 misfit misfit4
   fitting-same [] rest e = absurd (omega arith)
   fitting-same (v ∷ []) rest e = absurd (omega arith)
   fitting-same (v ∷ w ∷ []) rest e = absurd (omega arith)
   fitting-same (v ∷ w ∷ x ∷ []) rest e = absurd (omega arith)
-  fitting-same (v ∷ w ∷ x ∷ y ∷ []) rest e = rw b refl
+  fitting-same (v ∷ w ∷ x ∷ y ∷ []) rest e = rw (mark4 m b, mark3 m, mark2 m, mark1 m, mark0 m) refl
   fitting-same (v ∷ w ∷ x ∷ y ∷ z ∷ vs) rest e = absurd (omega arith)
 
-  after-map : (rest : List ℕ) → afterMap m rest ≡ afterMap4 m rest
-  unfolding afterMap afterMap4 readFields readFields4
-  after-map rest =
-      ap (λ (o : Option ℕ). checked o (readFields m rest)) checks-same
-      ∙ ap (checked (firstMet (mapChecks4 m))) (last-absent 8 0 sizes4 defaults4 m rest (fitting m) (fitting4 m) refl b fitting-same)
+  taken-same : (rest : List ℕ) → takeFields sizes4 (m + 32) defaults4 rest ≡ takeFields sizes4 m defaults4 rest
+  taken-same rest = rw (mark3 m, mark2 m, mark1 m, mark0 m) refl
 
-header-same : (bytes : List ℕ) → saltBit bytes ≡ false → readHeader bytes ≡ readHeader4 bytes
+  fields-read-same : (rest : List ℕ) → readFields (m + 32) rest ≡ readFields4 m rest
+  unfolding readFields readFields4
+  fields-read-same rest =
+      last-absent 8 0 sizes4 defaults4 (m + 32) rest (fitting (m + 32)) (fitting4 m) refl (mark4 m b) fitting-same
+      ∙ ap (λ (p : Parsed (List ℕ)). andThen p (fitting4 m)) (taken-same rest)
+
+  -- an upper bit of the earlier map is one of the marked map, or the salt's
+  checks-same : firstMet (mapChecks (m + 32)) ≡ firstMet (mapChecks4 m)
+  unfolding mapChecks mapChecks4
+  checks-same = elim (decLe 16 m) [
+    | yes h ↦ rw (le-leb 64 (m + 32) (omega (arith, eqb-false (m / 2 / 2 / 2 / 2 % 2) 1 b)), le-leb 16 m h) refl
+    | no h ↦ rw (
+      lt-leb 64 (m + 32) (omega arith),
+      lt-leb 16 m (omega arith),
+      eq-eqb ((m + 32) / 2 / 2 / 2 / 2 / 2 % 2) 1 (omega arith),
+    ) refl
+  ]
+
+  after-map : (rest : List ℕ) → afterMap (m + 32) rest ≡ afterMap4 m rest
+  unfolding afterMap afterMap4
+  after-map rest = ap₂ checked checks-same (fields-read-same rest)
+
+header-same : (bytes : List ℕ) → saltBit bytes ≡ false → readHeader (marked bytes) ≡ readHeader4 bytes
 unfolding readHeader readHeader4
 header-same [] b = refl
 header-same (m ∷ rest) b = after-map m b rest
 
-reads : (bytes c : List ℕ) → saltBit bytes ≡ false → readFile bytes c ≡ readFile4 bytes c
+reads : (bytes c : List ℕ) → saltBit bytes ≡ false → readFile (marked bytes) c ≡ readFile4 bytes c
 unfolding readFile readFile4 readAll
 reads bytes c b = ap (λ (p : Parsed Settings). keeping c (answerOf (andThen p (afterHeader c)))) (header-same bytes b)
 
-tells : (bytes : List ℕ) → saltBit bytes ≡ false → headerAnswer bytes ≡ headerAnswer4 bytes
+tells : (bytes : List ℕ) → saltBit bytes ≡ false → headerAnswer (marked bytes) ≡ headerAnswer4 bytes
 unfolding headerAnswer headerAnswer4
 tells bytes b = ap named (header-same bytes b)
 
 -- ── written ──
-map-same : (s : Settings) → s .salt ≡ 0 → mapOf s ≡ mapOf4 s
-map-same s e = rw e refl
+map-same : (s : Settings) → s .salt ≡ 0 → mapOf s ≡ mapOf4 s + 32
+map-same s e = rw e (omega arith)
 
 low-bit : (m : ℕ) → m < 16 → bit 4 m ≡ false
 low-bit m h = ne-eqb (m / 2 / 2 / 2 / 2 % 2) 1 (λ z. omega arith)
 
-fields-same : (s : Settings) (m : ℕ) → bit 4 m ≡ false → fieldBytes sizes m (valuesOf s) ≡ fieldBytes sizes4 m (valuesOf4 s)
-fields-same s m b = rw b refl
+fields-same : (s : Settings) (m : ℕ) → bit 4 m ≡ false → fieldBytes sizes (m + 32) (valuesOf s) ≡ fieldBytes sizes4 m (valuesOf4 s)
+fields-same s m b = rw (mark4 m b, mark3 m, mark2 m, mark1 m, mark0 m) refl
 
-writes : (s : Settings) (c out : List ℕ) → s .salt ≡ 0 → writeFile s c out ≡ writeFile4 s c out
-unfolding writeFile writeFile4 fileOf header header4
-writes s c out e =
-    ap (λ (m : ℕ). written s c (m ∷ fieldBytes sizes m (valuesOf s) ++ body c) out) (map-same s e)
-    ∙ ap (λ (l : List ℕ). written s c (mapOf4 s ∷ l ++ body c) out) (fields-same s (mapOf4 s) (low-bit (mapOf4 s) (from-low (standing4 s))))
+files : (s : Settings) (c : List ℕ) → s .salt ≡ 0 → fileOf s c ≡ marked (fileOf4 s c)
+unfolding fileOf fileOf4 header header4
+files s c e =
+    ap (λ (m : ℕ). m ∷ fieldBytes sizes m (valuesOf s) ++ body c) (map-same s e)
+    ∙ ap (λ (l : List ℕ). (mapOf4 s + 32) ∷ l ++ body c) (fields-same s (mapOf4 s) (low-bit (mapOf4 s) (from-low (standing4 s))))
+
+writes : (s : Settings) (c out : List ℕ) → s .salt ≡ 0 → writeFile s c out ≡ written s c (marked (fileOf4 s c)) out
+unfolding writeFile
+writes s c out e = ap (λ (l : List ℕ). written s c l out) (files s c e)
 
 pub unsalted-files : UnsaltedFiles
-unsalted-files = record { writes = writes; reads = reads; tells = tells }
+unsalted-files = record { files = files; writes = writes; reads = reads; tells = tells }

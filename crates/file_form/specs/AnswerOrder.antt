@@ -3,7 +3,7 @@
 -- Assumes nothing.
 use mathlib.Core.Path.{_≡_}
 use mathlib.Core.Logic.{_≢_}
-use mathlib.Core.Bool.{true, _||_}
+use mathlib.Core.Bool.{true, false, _||_}
 use mathlib.Core.Option.{none, some}
 use mathlib.Core.List.{List, [], _∷_}
 use Prim.Native.Nat.{ℕ, _+_, _*_, _/_, _^_, _≤_, _<_}
@@ -15,7 +15,7 @@ use Rattle.index.specs.declared.Settings.{Settings}
 use Rattle.calls.specs.Calls.{Sound}
 use Rattle.file_form.specs.Bytes.{bit0, bit1, bit2, bit3}
 use Rattle.file_form.specs.Parsed.{stop, next}
-use Rattle.file_form.specs.Fields.{anyOf, partSize, takeFields}
+use Rattle.file_form.specs.Fields.{bit, anyOf, partSize, takeFields}
 use Rattle.file_form.specs.Header.{sizes, settingsFrom, defaults, misfits}
 use Rattle.file_form.specs.Reader.{readHeader, readCell, readBucket, readBuckets, readFile}
 
@@ -28,12 +28,14 @@ pub record AnswerOrder : Type 0 where
   -- no byte at all
   pub no-byte : (c : List ℕ) → readFile [] c .answer ≡ refused 11
   -- an upper bit of the map, whatever follows
-  pub map-bits : (map : ℕ) (rest c : List ℕ) → 32 ≤ map → readFile (map ∷ rest) c .answer ≡ refused 12
+  pub map-bits : (map : ℕ) (rest c : List ℕ) → 64 ≤ map → readFile (map ∷ rest) c .answer ≡ refused 12
+  -- no bit 5, whatever follows
+  pub uneven : (map : ℕ) (rest c : List ℕ) → map < 64 → bit 5 map ≡ false → readFile (map ∷ rest) c .answer ≡ refused 23
   -- bytes that end before the fields do, whatever these say
-  pub fields : (map : ℕ) (rest c : List ℕ) → map < 32 → length rest < fieldsLength sizes map → readFile (map ∷ rest) c .answer ≡ refused 11
+  pub fields : (map : ℕ) (rest c : List ℕ) → map < 64 → bit 5 map ≡ true → length rest < fieldsLength sizes map → readFile (map ∷ rest) c .answer ≡ refused 11
   -- the other causes of 12, whatever the settings are, and whatever follows
-  pub misfits : (map : ℕ) (rest c values more : List ℕ) → map < 32 → takeFields sizes map defaults rest ≡ next values more → anyOf (misfits map (settingsFrom values)) ≡ true
-      → readFile (map ∷ rest) c .answer ≡ refused 12
+  pub misfits : (map : ℕ) (rest c values more : List ℕ) → map < 64 → bit 5 map ≡ true → takeFields sizes map defaults rest ≡ next values more
+      → anyOf (misfits map (settingsFrom values)) ≡ true → readFile (map ∷ rest) c .answer ≡ refused 12
   -- the settings of a sound header, whatever the table and the buckets are
   pub settings : (bytes c rest : List ℕ) (s : Settings) (n : ℕ) → readHeader bytes ≡ next s rest → settingsRefusal s ≡ some n → readFile bytes c .answer ≡ refused n
   -- good settings and a table of another length, whatever the buckets are

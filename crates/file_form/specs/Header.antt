@@ -1,7 +1,7 @@
 -- The fields of the header, in their order: rule, width, bucket count less 1, mask, salt. Nothing else names them, so that a new field is an
 -- entry in each list here.
 -- Assumes nothing.
-use mathlib.Core.Bool.{Bool, cond, not, _&&_}
+use mathlib.Core.Bool.{Bool, true, cond, not, _&&_}
 use mathlib.Core.List.{List, [], _∷_}
 use Prim.Native.Nat.{ℕ, _+_, _-_}
 use lib.Dec.{eqb, leb}
@@ -31,7 +31,8 @@ defaults = valuesOf defaultSettings
 abbrev pub masked : Settings → Bool
 masked s = eqb (s .rule) 2
 
--- whether each is there: rule, width, bucket count and salt where they are not the default
+-- whether each is there: rule, width, bucket count and salt where they are not the default. Bit 5 has no field behind it: it stands in every
+-- file, and says that the fingerprints are spread evenly, which those of files without it are not
 abbrev pub standing : Settings → List Bool
 standing s =
     not (eqb (s .rule) (defaultSettings .rule))
@@ -39,14 +40,15 @@ standing s =
     ∷ not (eqb (s .buckets) (defaultSettings .buckets))
     ∷ masked s
     ∷ not (eqb (s .salt) (defaultSettings .salt))
+    ∷ true
     ∷ []
 
 abbrev pub mapOf : Settings → ℕ
 mapOf s = fromBits (standing s)
 
--- the map's own tests, before any field is read: bits 5 to 7 are 0
+-- the map's own tests, before any field is read: bits 6 and 7 are 0, and bit 5 stands
 unfoldable pub mapChecks : ℕ → List Check
-mapChecks map = check 12 (leb 32 map) ∷ []
+mapChecks map = check 12 (leb 64 map) ∷ check 23 (not (bit 5 map)) ∷ []
 
 -- the other causes of 12, once the fields are read: one that is there though it has its default, and a mask's bit that does not fit the rule
 abbrev pub misfits : ℕ → Settings → List Bool

@@ -1,4 +1,5 @@
--- The hold file as it was before settings had a salt, a header of four fields, and that nothing of it has changed where there is no salt.
+-- The hold file as it was before settings had a salt, a header of four fields, and that nothing of it has changed where there is no salt, but
+-- for the mark of even fingerprints, bit 5 of the first byte, which every file has had since.
 -- The definitions with a 4 in their names are kept for this statement; nothing else uses them.
 -- Assumes nothing.
 use mathlib.Core.Path.{_≡_}
@@ -11,11 +12,11 @@ use Rattle.refusals.specs.Checks.{Check, check, firstMet}
 use Rattle.refusals.specs.Outcomes.{Answer, Outcome, keeping}
 use Rattle.index.specs.Settings.{defaultSettings}
 use Rattle.index.specs.declared.Settings.{Settings}
-use Rattle.calls.specs.WrittenForms.{Written, written}
+use Rattle.calls.specs.WrittenForms.{written}
 use Rattle.file_form.specs.Parsed.{Parsed, next, andThen, refuseIf, checked, answerOf}
 use Rattle.file_form.specs.Fields.{bit, fromBits, anyOf, fieldBytes, takeFields}
 use Rattle.file_form.specs.Header.{masked}
-use Rattle.file_form.specs.Writer.{body, writeFile}
+use Rattle.file_form.specs.Writer.{body, fileOf, writeFile}
 use Rattle.file_form.specs.Reader.{takeByte, afterHeader, readFile, named, headerAnswer}
 
 -- ── the four fields ──
@@ -59,8 +60,8 @@ misfit4 map s =
 unfoldable pub header4 : Settings → List ℕ
 header4 s = mapOf4 s ∷ fieldBytes sizes4 (mapOf4 s) (valuesOf4 s)
 
-unfoldable pub writeFile4 : Settings → List ℕ → List ℕ → Written
-writeFile4 s c out = written s c (header4 s ++ body c) out
+unfoldable pub fileOf4 : Settings → List ℕ → List ℕ
+fileOf4 s c = header4 s ++ body c
 
 -- ── read ──
 unfoldable pub fitting4 : ℕ → List ℕ → List ℕ → Parsed Settings
@@ -87,9 +88,15 @@ abbrev pub saltBit : List ℕ → Bool
 saltBit [] = false
 saltBit (map ∷ rest) = bit 4 map
 
+-- earlier bytes with the mark: 32, which is bit 5, added to the first
+abbrev pub marked : List ℕ → List ℕ
+marked [] = []
+marked (map ∷ rest) = (map + 32) ∷ rest
+
 pub record UnsaltedFiles : Type 0 where
-  -- a list of salt 0 is written as before, byte for byte, and refused as before
-  pub writes : (s : Settings) (c out : List ℕ) → s .salt ≡ 0 → writeFile s c out ≡ writeFile4 s c out
-  -- bytes without bit 4, whatever they are, are read as before, into any table: settings, cells and numbers
-  pub reads : (bytes c : List ℕ) → saltBit bytes ≡ false → readFile bytes c ≡ readFile4 bytes c
-  pub tells : (bytes : List ℕ) → saltBit bytes ≡ false → headerAnswer bytes ≡ headerAnswer4 bytes
+  -- the file of a list of salt 0 is the earlier one with the mark, byte for byte, and that is what is written, or refused as before
+  pub files : (s : Settings) (c : List ℕ) → s .salt ≡ 0 → fileOf s c ≡ marked (fileOf4 s c)
+  pub writes : (s : Settings) (c out : List ℕ) → s .salt ≡ 0 → writeFile s c out ≡ written s c (marked (fileOf4 s c)) out
+  -- earlier bytes without bit 4, whatever they are, are with the mark read as they were without it, into any table: settings, cells and numbers
+  pub reads : (bytes c : List ℕ) → saltBit bytes ≡ false → readFile (marked bytes) c ≡ readFile4 bytes c
+  pub tells : (bytes : List ℕ) → saltBit bytes ≡ false → headerAnswer (marked bytes) ≡ headerAnswer4 bytes

@@ -3,8 +3,8 @@
 use mathlib.Core.Path.{_≡_, refl, sym, ap, ap₂, _∙_}
 use mathlib.Core.Logic.{_≢_}
 use mathlib.Core.List.{List, [], _∷_}
-use Prim.Native.Nat.{ℕ, zero, suc, _+_, _*_, _-_, _/_, _%_, _^_, _≤_, _<_}
-use native.Mathlib.Nat.{div-add-mod', mod-lt, zero-add, add-mod, add-mod-mod, lt-of-lt-of-le, one-mul}
+use Prim.Native.Nat.{ℕ, _+_, _*_, _-_, _/_, _%_, _^_, _≤_, _<_}
+use native.Mathlib.Nat.{div-add-mod', mod-lt, zero-add, add-mod, add-mod-mod, one-mul}
 use native.Mathlib.Numerals.{add-one}
 use native.Mathlib.Omega.{arith}
 use lib.Bits.{bitAnd, bitXor, xor-block, xor-zero-r, and-mask}
@@ -13,10 +13,10 @@ use lib.Seq.{drop-cons}
 use lib.Pow.{pow-pos, pow-mono, shl-exact}
 use Rattle.lemmas.proofs.Numbers.{mod-times}
 use Rattle.index.specs.Settings.{modulus}
-use Rattle.index.specs.Hash.{fnvStart, fnvPrime, fnvStep, fnvFrom, fnv1a, tagHash, notZero, fingerprintOf, homeOf, fingerprint, home}
+use Rattle.index.specs.Hash.{fnvStart, fnvPrime, fnvStep, fnvFrom, fnv1a, tagHash, fingerprintOf, homeOf, fingerprint, home}
 use Rattle.index.specs.Candidates.{offset}
 use Rattle.index.specs.declared.Settings.{Settings}
-use Rattle.index.proofs.Good.{Good, modulus-xor, modulus-ring}
+use Rattle.index.proofs.Good.{Good, some-prints, modulus-xor, modulus-ring}
 
 -- the prime is 2^40 + 16 * 27 + 3, and each sum may be taken modulo 2^64 as it is made
 times3 : (h : ℕ) → (h + h * 2 ^ 1 % 2 ^ 64) % 2 ^ 64 ≡ h * 3 % 2 ^ 64
@@ -76,27 +76,13 @@ module _ {s : Settings} (G : Good s) (h : ℕ) where
   pub low-bits : s .rule ≢ 1 → bitAnd h (s .buckets - 1) ≡ h % modulus s
   low-bits n = let k = G .power n in rw (modulus-xor s n, k .1) (and-mask h (k .0))
 
-  -- ── the low w bits ──
-  pub one-shifted : 1 * 2 ^ s .width % 2 ^ 64 ≡ 2 ^ s .width
-  one-shifted = shl-exact {a = 1} 1 (s .width) 64 (omega arith) (omega (arith, G .width-high)) ∙ one-mul (2 ^ s .width)
+-- ── the fingerprint ──
+module _ {s : Settings} (G : Good s) where
+  pub one-shifted : 1 * 2 ^ s .width % 2 ^ 32 ≡ 2 ^ s .width
+  one-shifted = shl-exact {a = 1} 1 (s .width) 32 (omega arith) (omega (arith, G .width-high)) ∙ one-mul (2 ^ s .width)
 
-  pub low-width : bitAnd h (1 * 2 ^ s .width % 2 ^ 64 - 1) ≡ h % 2 ^ s .width
-  low-width = ap (λ (z : ℕ). bitAnd h (z - 1)) one-shifted ∙ and-mask h (s .width)
-
-  pub low-small : h % 2 ^ s .width < 2 ^ 16
-  low-small = lt-of-lt-of-le (mod-lt h (pow-pos (s .width))) (pow-mono (G .width-high))
-
-  pub print-one : h % 2 ^ s .width ≡ 0 → fingerprintOf s h ≡ 1
-  unfolding fingerprintOf
-  print-one e = ap notZero e
-
-  pub print-low : h % 2 ^ s .width ≢ 0 → fingerprintOf s h ≡ h % 2 ^ s .width
-  unfolding fingerprintOf
-  print-low n = go (h % 2 ^ s .width) n
-    where
-      go : (r : ℕ) → r ≢ 0 → notZero r ≡ r
-      go zero m = absurd (m refl)
-      go (suc r) m = refl
+  pub print-small : (h : ℕ) → 1 + h % 2 ^ 32 % (2 ^ s .width - 1) < 2 ^ 16
+  print-small h = omega (arith, mod-lt (h % 2 ^ 32) (some-prints G), pow-mono (G .width-high))
 
 -- ── the entry and the offset ──
 pub print-of : (s : Settings) (t : List ℕ) {h p : ℕ} → h ≡ tagHash (s .salt) t → p ≡ fingerprintOf s h → p ≡ fingerprint s t

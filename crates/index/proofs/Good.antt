@@ -11,7 +11,7 @@ use native.Mathlib.Omega.{arith}
 use borrow.Author.Tests.{ltb-false, leb-false, eqb-true, eqb-false, not-false}
 use lib.Bits.{bitAnd, and-mask}
 use lib.Dec.{eqb, leb, ltb}
-use lib.Pow.{pow-mono}
+use lib.Pow.{pow-lt, pow-mono}
 use Rattle.lemmas.proofs.Bools.{or-false-left, or-false-right, cond-none}
 use Rattle.lemmas.proofs.Powers.{power-of-and, and-of-power}
 use Rattle.index.specs.Settings.{byRule, powerBelow, powerOfTwo, odd, settingsChecks, settingsRefusal, half, modulus}
@@ -152,3 +152,7 @@ modulus-below s G = elim (ℕ-discrete (s .rule) 1) [
   | yes e ↦ omega (arith, modulus-ring s e, G .even e, G .some-bucket)
   | no n ↦ omega (arith, modulus-xor s n, G .some-bucket)
 ]
+
+-- there is a fingerprint
+pub some-prints : {s : Settings} → Good s → 0 < 2 ^ s .width - 1
+some-prints {s} G = omega (arith, pow-lt {i = 0} {j = s .width} (omega (arith, G .width-low)))

@@ -10,18 +10,17 @@ use native.Mathlib.Decide.{ℕ-discrete}
 use native.Mathlib.Omega.{arith}
 use lib.Bits.{bitAnd, bitXor, xor-zero-r, xor-lt, and-le-l}
 use lib.ListN.{length}
-use lib.Pow.{pow-pos, pow-lt}
 use Rattle.lemmas.specs.Count.{_among_}
 use Rattle.lemmas.specs.Members.{Alike}
 use Rattle.lemmas.proofs.Count.{hit-cases, among-cons, among-nil}
 use Rattle.lemmas.proofs.Members.{alike-refl, members-alike, into-members, from-members, members-ascend}
 use Rattle.lemmas.proofs.Bits.{mask-parts}
 use Rattle.index.specs.Settings.{byRule, settingsRefusal, half, modulus}
-use Rattle.index.specs.Hash.{fnv1a, tagHash, notZero, fingerprintOf, homeOf, fingerprint, home}
+use Rattle.index.specs.Hash.{fnv1a, tagHash, fingerprintOf, homeOf, fingerprint, home}
 use Rattle.index.specs.Candidates.{offset, across, coMask, xorSteps, othersBy, others, candidates, candidateSet, classAt, classOf}
 use Rattle.index.specs.Laws.{Laws}
 use Rattle.index.specs.declared.Settings.{Settings}
-use Rattle.index.proofs.Good.{Good, good, by-masked, by-xor, modulus-below, modulus-ring, modulus-xor}
+use Rattle.index.proofs.Good.{Good, good, some-prints, by-masked, by-xor, modulus-below, modulus-ring, modulus-xor}
 use Rattle.index.proofs.Cosets.{Closed, step-of, coset, plain-closed, masked-closed}
 use Rattle.index.proofs.Ring.{across-below, across-back, pair-alike}
 
@@ -153,19 +152,11 @@ module _ (s : Settings) (G : Good s) where
   -- ── tags ──
   filled : (h : ℕ) → fingerprintOf s h ≢ 0
   unfolding fingerprintOf
-  filled h = go (h % 2 ^ s .width)
-    where
-      go : (r : ℕ) → notZero r ≢ 0
-      go zero e = omega arith
-      go (suc r) e = omega arith
+  filled h e = omega arith
 
   fits : (h : ℕ) → fingerprintOf s h < 2 ^ s .width
   unfolding fingerprintOf
-  fits h = go (h % 2 ^ s .width) (mod-lt h (pow-pos (s .width)))
-    where
-      go : (r : ℕ) → r < 2 ^ s .width → notZero r < 2 ^ s .width
-      go zero k = pow-lt {i = 0} (omega (arith, G .width-low))
-      go (suc r) k = k
+  fits h = omega (arith, mod-lt (h % 2 ^ 32) (some-prints G))
 
   mask-low : s .mask < s .buckets
   mask-low = elim (ℕ-discrete (s .rule) 2) [

@@ -8,3 +8,4 @@ pub mod Checks
 pub mod Answers
 pub mod Computes
 pub mod Unsalted
+pub mod Even

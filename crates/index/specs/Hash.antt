@@ -2,7 +2,7 @@
 -- Assumes nothing.
 use mathlib.Core.Bool.{_||_}
 use mathlib.Core.List.{List, [], _∷_}
-use Prim.Native.Nat.{ℕ, zero, suc, _+_, _*_, _/_, _%_, _^_}
+use Prim.Native.Nat.{ℕ, _+_, _*_, _-_, _/_, _%_, _^_}
 use lib.Bits.{bitXor}
 use lib.Dec.{eqb, ltb}
 use lib.ListN.{length}
@@ -29,14 +29,9 @@ fnvFrom h (b ∷ bs) = fnvFrom (fnvStep h b) bs
 unfoldable pub fnv1a : List ℕ → ℕ
 fnv1a bytes = fnvFrom fnvStart bytes
 
--- 0 marks an empty cell, so it becomes 1
-abbrev pub notZero : ℕ → ℕ
-notZero zero = 1
-notZero (suc n) = suc n
-
--- the fingerprint (document 01: the print) of a hash: its low w bits
+-- the fingerprint (document 01: the print) of a hash: its lower 32 bits, spread over 1 to 2 to the w less 1. 0 marks an empty cell
 unfoldable pub fingerprintOf : Settings → ℕ → ℕ
-fingerprintOf s h = notZero (h % 2 ^ s .width)
+fingerprintOf s h = 1 + h % 2 ^ 32 % (2 ^ s .width - 1)
 
 -- the home bucket of a hash, by its upper 32 bits
 unfoldable pub homeOf : Settings → ℕ → ℕ

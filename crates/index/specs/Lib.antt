@@ -4,4 +4,5 @@ pub mod Hash
 pub mod Candidates
 pub mod Answers
 pub mod Unsalted
+pub mod Even
 pub mod Laws

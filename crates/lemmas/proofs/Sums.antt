@@ -1,17 +1,20 @@
--- Sums: compared, changed at one place, counted by fours, over each number of a list once, and what follows for lists of small numbers.
+-- Sums: compared, changed at one place, counted by fours, over each number of a list once, and what follows for lists of small numbers;
+-- how often a remainder comes up.
 -- Assumes nothing.
-use mathlib.Core.Path.{_≡_, refl, ap}
+use mathlib.Core.Path.{_≡_, refl, sym, ap, _∙_}
 use mathlib.Core.Logic.{_⊎_, inl, inr, _≢_}
-use mathlib.Core.Bool.{cond}
+use mathlib.Core.Bool.{Bool, cond}
 use mathlib.Core.List.{List, [], _∷_, _++_}
-use Prim.Native.Nat.{ℕ, zero, suc, _+_, _*_, _/_, _≤_, _<_}
+use Prim.Native.Nat.{ℕ, zero, suc, _+_, _*_, _/_, _%_, _≤_, _<_}
+use native.Mathlib.Nat.{zero-div, zero-mod, mod-lt, mod-self, mod-eq-of-lt, div-self, div-eq-of-lt, div-add-mod', mul-add-div-right, mul-add-mod-self-right}
+use native.Mathlib.Decide.{decLe}
 use native.Mathlib.Omega.{arith}
-use borrow.Author.Tests.{eq-eqb, ne-eqb}
-use lib.Dec.{eqb}
+use borrow.Author.Tests.{eq-eqb, ne-eqb, le-leb, lt-leb}
+use lib.Dec.{eqb, leb}
 use lib.ListN.{length}
 use Rattle.lemmas.specs.Count.{hit, occ, _among_}
 use Rattle.lemmas.specs.Members.{AllAbove, Ascending, Alike}
-use Rattle.lemmas.specs.Sums.{sumTo, total, totalOnce}
+use Rattle.lemmas.specs.Sums.{sumTo, timesBelow, total, totalOnce}
 use Rattle.lemmas.proofs.Count.{hit-cases, hit-refl, hit-of, hit-ne, hit-sym, occ-append, zero-cases}
 
 pub sum-le : (n : ℕ) (f g : ℕ → ℕ) → ((i : ℕ) → i < n → f i ≤ g i) → sumTo n f ≤ sumTo n g
@@ -173,3 +176,65 @@ module _ (n : ℕ) (w : ℕ → ℕ) where
     once-out (occ x l) (w x) (above-none x l (a .0)),
     once-total l (a .1) (λ y k. h y (omega arith)),
   )
+
+-- ── how often ──
+-- functions that agree below n have each value equally often
+pub times-eq : (n : ℕ) (f g : ℕ → ℕ) (p : ℕ) → ((i : ℕ) → i < n → f i ≡ g i) → timesBelow n f p ≡ timesBelow n g p
+unfolding timesBelow
+times-eq n f g p h = sum-eq n (λ x. hit (f x) p) (λ x. hit (g x) p) (λ i l. ap (λ (y : ℕ). hit y p) (h i l))
+
+-- values that are all one higher
+pub times-suc : (n : ℕ) (f : ℕ → ℕ) (p : ℕ) → timesBelow n (λ x. 1 + f x) (suc p) ≡ timesBelow n f p
+unfolding timesBelow
+times-suc n f p = sum-eq n (λ x. hit (1 + f x) (suc p)) (λ x. hit (f x) p) (λ i l. same (f i))
+  where
+    same : (y : ℕ) → hit (1 + y) (suc p) ≡ hit y p
+    same y = elim (hit-cases y p) [
+      | inl e ↦ omega (arith, hit-of y p e, hit-of (1 + y) (suc p) (omega arith))
+      | inr z ↦ elim (hit-cases (1 + y) (suc p)) [ inl e ↦ absurd (hit-ne y p z (omega arith)) | inr w ↦ omega arith ]
+    ]
+
+-- the remainder r comes up once in each full round of d, and once more where the last round gets as far
+module _ (d r : ℕ) (below : r < d) where
+  reached : ℕ → ℕ
+  reached m = cond (leb (suc r) m) 1 0
+
+  passed : (m : ℕ) → r < m → reached m ≡ 1
+  unfolding reached
+  passed m l = ap (λ (b : Bool). cond b 1 0) (le-leb (suc r) m l)
+
+  ahead : (m : ℕ) → m ≤ r → reached m ≡ 0
+  unfolding reached
+  ahead m l = ap (λ (b : Bool). cond b 1 0) (lt-leb (suc r) m (omega arith))
+
+  -- one number further in a round
+  further : (m : ℕ) → reached m + hit m r ≡ reached (m + 1)
+  further m = elim (hit-cases m r) [
+    | inl e ↦ omega (arith, hit-of m r e, ahead m (omega arith), passed (m + 1) (omega arith))
+    | inr z ↦ elim (decLe (m + 1) r) [
+      | yes l ↦ omega (arith, ahead m (omega arith), ahead (m + 1) l)
+      | no n ↦ let ne = hit-ne m r z in omega (arith, passed m (omega arith), passed (m + 1) (omega arith))
+    ]
+  ]
+
+  -- the next number is in the same round or begins another
+  turn : (m : ℕ) → m < d → reached (m + 1) ≡ (m + 1) / d + reached ((m + 1) % d)
+  turn m l = elim (decLe d (m + 1)) [
+    | yes h ↦ let e : m + 1 ≡ d = omega arith in
+        rw (e, div-self {n = d} (omega arith), mod-self d) (omega (arith, passed d below, ahead 0 (omega arith)))
+    | no h ↦ rw (div-eq-of-lt {n = m + 1} {m = d} (omega arith), mod-eq-of-lt {n = m + 1} {m = d} (omega arith)) (omega arith)
+  ]
+
+  rounds : (n : ℕ) → timesBelow n (λ x. x % d) r ≡ n / d + reached (n % d)
+  unfolding timesBelow
+  rounds zero = omega (arith, zero-div d, ap reached (zero-mod d), ahead 0 (omega arith))
+  rounds (suc n) =
+      let m = n % d in
+      let e : n / d * d + (m + 1) ≡ suc n = omega (arith, div-add-mod' n d) in
+      let quotient : suc n / d ≡ n / d + (m + 1) / d = ap (λ (x : ℕ). x / d) (sym e) ∙ mul-add-div-right {m = d} (omega arith) (n / d) (m + 1) in
+      let rest : suc n % d ≡ (m + 1) % d = ap (λ (x : ℕ). x % d) (sym e) ∙ mul-add-mod-self-right (n / d) d (m + 1) in
+      omega (arith, rounds n, further m, turn m (mod-lt n (omega arith)), quotient, ap reached rest)
+
+  pub times-mod : (n : ℕ) → timesBelow n (λ x. x % d) r ≡ n / d + cond (leb (suc r) (n % d)) 1 0
+  unfolding reached
+  times-mod n = rounds n
