@@ -23,6 +23,9 @@ const WIDTH: u8 = 2;
 const BUCKETS: u8 = 4;
 const MASK: u8 = 8;
 const SALT: u8 = 16;
+/// A field without bytes, which every file has: its fingerprints are even. Files from before it have
+/// other fingerprints, and no cell tells which.
+const EVEN: u8 = 32;
 
 /// Four 16-bit numbers side by side, of which each is 1.
 const ONES: u64 = 0x0001_0001_0001_0001;
@@ -72,6 +75,7 @@ impl Head {
         if settings.salt != DEFAULTS.salt {
             head.push(SALT, &settings.salt.to_le_bytes());
         }
+        head.push(EVEN, &[]);
         head
     }
 
@@ -129,8 +133,11 @@ fn take<const N: usize>(bytes: &mut &[u8]) -> Answer<[u8; N]> {
 /// Takes the map and the fields.
 pub(crate) fn take_head(bytes: &mut &[u8]) -> Answer<Settings> {
     let [map] = take(bytes)?;
-    if map >> 5 != 0 {
+    if map >> 6 != 0 {
         return Err(12);
+    }
+    if map & EVEN == 0 {
+        return Err(23);
     }
     let present = |bit: u8| map & bit != 0;
     let mut settings = DEFAULTS;
@@ -233,11 +240,11 @@ mod tests {
     use crate::index::RING;
     use crate::requests::Mix;
 
-    const EXAMPLE: [u8; 9] = [0x06, 0x04, 0x00, 0x00, 0x0a, 0x09, 0x00, 0x03, 0x00];
+    const EXAMPLE: [u8; 9] = [0x26, 0x04, 0x00, 0x00, 0x0a, 0x09, 0x00, 0x03, 0x00];
 
     /// The same list with a salt.
     const SALTED: [u8; 17] = [
-        0x16, 0x04, 0x00, 0x00, 0xef, 0xcd, 0xab, 0x89, 0x67, 0x45, 0x23, 0x01, 0x0a, 0x09, 0x00,
+        0x36, 0x04, 0x00, 0x00, 0xef, 0xcd, 0xab, 0x89, 0x67, 0x45, 0x23, 0x01, 0x0a, 0x09, 0x00,
         0x03, 0x00,
     ];
     const SOME_SALT: u64 = 0x0123_4567_89ab_cdef;
@@ -279,9 +286,21 @@ mod tests {
         // All settings but the salt are the default.
         let mut table = [7; 4 * 4_096];
         let mut file = vec![0; 9 + 4_096];
-        file[..9].copy_from_slice(&[0x10, 1, 2, 3, 4, 5, 6, 7, 8]);
+        file[..9].copy_from_slice(&[0x30, 1, 2, 3, 4, 5, 6, 7, 8]);
         let default = DEFAULTS.with_salt(0x0807_0605_0403_0201);
         assert_eq!(read(&file, &mut table), Ok(default));
+    }
+
+    #[test]
+    fn empty_list_of_the_default_settings() {
+        let mut file = vec![0; 1 + 4_096];
+        file[0] = 0x20;
+        let mut table = vec![7; 4 * 4_096];
+        assert_eq!(read(&file, &mut table), Ok(DEFAULTS));
+        assert!(table.iter().all(|&cell| cell == 0));
+        let mut out = vec![0xee; file.len()];
+        assert_eq!(write(DEFAULTS, &table, &mut out), Ok(file.len()));
+        assert_eq!(out, file);
     }
 
     #[test]
@@ -298,15 +317,15 @@ mod tests {
                 .as_slice()
                 .to_vec()
         };
-        assert_eq!(head(PLAIN, 12, 4_096, 0), [0]);
-        assert_eq!(head(RING, 12, 4_096, 0), [1, 1]);
-        assert_eq!(head(PLAIN, 16, 4_096, 0), [2, 16]);
-        assert_eq!(head(PLAIN, 12, 65_536, 0), [4, 0xff, 0xff]);
-        assert_eq!(head(MASKED, 12, 4_096, 0), [9, 2, 0, 0]);
-        assert_eq!(head(MASKED, 5, 1, 0), [15, 2, 5, 0, 0, 0, 0]);
+        assert_eq!(head(PLAIN, 12, 4_096, 0), [0x20]);
+        assert_eq!(head(RING, 12, 4_096, 0), [0x21, 1]);
+        assert_eq!(head(PLAIN, 16, 4_096, 0), [0x22, 16]);
+        assert_eq!(head(PLAIN, 12, 65_536, 0), [0x24, 0xff, 0xff]);
+        assert_eq!(head(MASKED, 12, 4_096, 0), [0x29, 2, 0, 0]);
+        assert_eq!(head(MASKED, 5, 1, 0), [0x2f, 2, 5, 0, 0, 0, 0]);
         assert_eq!(
             head(MASKED, 4, 1_024, 0x155),
-            [15, 2, 4, 0xff, 3, 0x55, 0x01]
+            [0x2f, 2, 4, 0xff, 3, 0x55, 0x01]
         );
     }
 
@@ -318,14 +337,14 @@ mod tests {
         let masked = Settings::new(MASKED, 4, 1_024, 0x155);
         assert_eq!(
             head(masked, SOME_SALT),
-            [31, 2, 4, 0xff, 3, 0x55, 0x01, 0xef, 0xcd, 0xab, 0x89, 0x67, 0x45, 0x23, 0x01]
+            [0x3f, 2, 4, 0xff, 3, 0x55, 0x01, 0xef, 0xcd, 0xab, 0x89, 0x67, 0x45, 0x23, 0x01]
         );
-        assert_eq!(head(DEFAULTS, 1), [16, 1, 0, 0, 0, 0, 0, 0, 0]);
-        assert_eq!(head(DEFAULTS, 1 << 63), [16, 0, 0, 0, 0, 0, 0, 0, 0x80]);
-        assert_eq!(head(DEFAULTS, 1 << 32), [16, 0, 0, 0, 0, 1, 0, 0, 0]);
+        assert_eq!(head(DEFAULTS, 1), [0x30, 1, 0, 0, 0, 0, 0, 0, 0]);
+        assert_eq!(head(DEFAULTS, 1 << 63), [0x30, 0, 0, 0, 0, 0, 0, 0, 0x80]);
+        assert_eq!(head(DEFAULTS, 1 << 32), [0x30, 0, 0, 0, 0, 1, 0, 0, 0]);
         assert_eq!(head(DEFAULTS, u64::MAX)[1..], [0xff; 8]);
-        assert_eq!(head(DEFAULTS, 0), [0]);
-        assert_eq!(head(masked, 0), [15, 2, 4, 0xff, 3, 0x55, 0x01]);
+        assert_eq!(head(DEFAULTS, 0), [0x20]);
+        assert_eq!(head(masked, 0), [0x2f, 2, 4, 0xff, 3, 0x55, 0x01]);
         assert_eq!(head(masked, 1).len(), HEAD);
     }
 
@@ -399,7 +418,9 @@ mod tests {
         for length in 0..EXAMPLE.len() {
             assert_eq!(refusal(&EXAMPLE[..length], 4), 11, "{length}");
         }
-        let all = [15, 2, 4, 3, 0, 2, 0, 1, 7, 0, 0, 0, 15, 1, 0, 2, 0, 3, 0, 4];
+        let all = [
+            0x2f, 2, 4, 3, 0, 2, 0, 1, 7, 0, 0, 0, 15, 1, 0, 2, 0, 3, 0, 4,
+        ];
         for length in 0..all.len() {
             assert_eq!(refusal(&all[..length], 16), 11, "{length}");
         }
@@ -420,15 +441,16 @@ mod tests {
         };
         // A high bit of the map; a default that is there; bit 3 where it should not be, or not
         // there where it should.
-        assert_eq!(with(0, 0x26), 12);
+        assert_eq!(with(0, 0x66), 12);
+        assert_eq!(with(0, 0xa6), 12);
         assert_eq!(with(0, 0x46), 12);
         assert_eq!(with(0, 0x86), 12);
         assert_eq!(with(1, 12), 12);
-        assert_eq!(refusal(&[0x01, 0x00], 4), 12);
-        assert_eq!(refusal(&[0x04, 0xff, 0x0f], 4), 12);
-        assert_eq!(refusal(&[0x08, 0x00, 0x00], 4), 12);
-        assert_eq!(refusal(&[0x01, 0x02], 4), 12);
-        assert_eq!(refusal(&[0x09, 0x01, 0x00, 0x00], 4), 12);
+        assert_eq!(refusal(&[0x21, 0x00], 4), 12);
+        assert_eq!(refusal(&[0x24, 0xff, 0x0f], 4), 12);
+        assert_eq!(refusal(&[0x28, 0x00, 0x00], 4), 12);
+        assert_eq!(refusal(&[0x21, 0x02], 4), 12);
+        assert_eq!(refusal(&[0x29, 0x01, 0x00, 0x00], 4), 12);
         // A salt of 0, which is its default; of 1 it is one.
         let mut salt = SALTED;
         salt[4..12].fill(0);
@@ -437,13 +459,13 @@ mod tests {
         let settings = Settings::new(PLAIN, 4, 1, 0).with_salt(1 << 56);
         assert_eq!(answer(&salt, 4), Ok(settings));
         // Some of the cells were taken for a salt, and the others end it early.
-        assert_eq!(with(0, 0x16), 11);
+        assert_eq!(with(0, 0x36), 11);
         // The settings.
-        assert_eq!(refusal(&[0x01, 0x03], 4), 1);
+        assert_eq!(refusal(&[0x21, 0x03], 4), 1);
         assert_eq!(with(1, 3), 2);
         assert_eq!(with(1, 17), 2);
         assert_eq!(with(2, 2), 3);
-        assert_eq!(refusal(&[0x0d, 0x02, 0x00, 0x00, 0x01, 0x00], 4), 4);
+        assert_eq!(refusal(&[0x2d, 0x02, 0x00, 0x00, 0x01, 0x00], 4), 4);
         // The table.
         assert_eq!(refusal(&EXAMPLE, 3), 5);
         assert_eq!(refusal(&EXAMPLE, 5), 5);
@@ -463,33 +485,71 @@ mod tests {
         assert_eq!(with(4, 0x0b), 11);
     }
 
+    /// Without bit 5 it is a file of earlier fingerprints: 23, whatever follows the map, and also where
+    /// nothing does. Bits 6 and 7 come before it.
+    #[test]
+    fn earlier_files() {
+        let mut mix = Mix(12);
+        for map in 0..=u8::MAX {
+            let number = match map {
+                0x40.. => 12,
+                0x20.. => continue,
+                _ => 23,
+            };
+            assert_eq!(refusal(&[map], 0), number);
+            for length in 0..20 {
+                let bytes = [&[map][..], &mix.bytes(length)].concat();
+                assert_eq!(refusal(&bytes, 4), number, "{bytes:?}");
+            }
+            // Fields with their defaults, a mask against the rule, settings that are refused.
+            for fields in [[0; 14], [12; 14], [0xff; 14]] {
+                assert_eq!(refusal(&[&[map][..], &fields].concat(), 4), number);
+            }
+        }
+        // Files that were good, and into a table of another size too.
+        let default = vec![0; 1 + 4_096];
+        for cells in [0, 4, 4 * 4_096] {
+            assert_eq!(refusal(&default, cells), 23);
+            for file in [&EXAMPLE[..], &SALTED] {
+                let mut earlier = file.to_vec();
+                earlier[0] ^= EVEN;
+                for length in 1..=earlier.len() {
+                    assert_eq!(refusal(&earlier[..length], cells), 23);
+                }
+            }
+        }
+    }
+
     #[test]
     fn several_faults() {
-        // The high bits before the fields that are not there.
-        assert_eq!(refusal(&[0x3f], 0), 12);
-        assert_eq!(refusal(&[0x20], 0), 12);
-        assert_eq!(refusal(&[0x1f], 0), 11);
+        // The high bits before the mark of the fingerprints, and that before the fields that are not
+        // there.
+        assert_eq!(refusal(&[0x40], 0), 12);
+        assert_eq!(refusal(&[0x7f], 0), 12);
+        assert_eq!(refusal(&[0xc0, 0, 0], 0), 12);
+        assert_eq!(refusal(&[0x1f], 0), 23);
+        assert_eq!(refusal(&[0x3f], 0), 11);
         // The end of a field before what those ahead of it say.
-        assert_eq!(refusal(&[0x03, 0x00], 0), 11);
-        assert_eq!(refusal(&[0x07, 0x07, 0x0c, 0xff], 0), 11);
-        assert_eq!(refusal(&[0x0f, 0x07, 0x11, 0xff, 0x0f, 0x00], 0), 11);
-        assert_eq!(refusal(&[0x13, 0x07, 0x0c, 0, 0, 0, 0, 0, 0, 0], 0), 11);
+        assert_eq!(refusal(&[0x23, 0x00], 0), 11);
+        assert_eq!(refusal(&[0x27, 0x07, 0x0c, 0xff], 0), 11);
+        assert_eq!(refusal(&[0x2f, 0x07, 0x11, 0xff, 0x0f, 0x00], 0), 11);
+        assert_eq!(refusal(&[0x33, 0x07, 0x0c, 0, 0, 0, 0, 0, 0, 0], 0), 11);
         // The other causes of 12 before the settings.
-        assert_eq!(refusal(&[0x03, 0x07, 0x0c], 0), 12);
-        assert_eq!(refusal(&[0x09, 0x07, 0x00, 0x00], 0), 12);
-        assert_eq!(refusal(&[0x06, 0x11, 0xff, 0x0f], 0), 12);
-        assert_eq!(refusal(&[0x13, 0x07, 0x11, 0, 0, 0, 0, 0, 0, 0, 0], 0), 12);
-        assert_eq!(refusal(&[0x13, 0x07, 0x11, 1, 0, 0, 0, 0, 0, 0, 0], 0), 1);
+        assert_eq!(refusal(&[0x23, 0x07, 0x0c], 0), 12);
+        assert_eq!(refusal(&[0x29, 0x07, 0x00, 0x00], 0), 12);
+        assert_eq!(refusal(&[0x26, 0x11, 0xff, 0x0f], 0), 12);
+        assert_eq!(refusal(&[0x33, 0x07, 0x11, 0, 0, 0, 0, 0, 0, 0, 0], 0), 12);
+        assert_eq!(refusal(&[0x33, 0x07, 0x11, 1, 0, 0, 0, 0, 0, 0, 0], 0), 1);
         // The settings in their order, before the table.
-        assert_eq!(refusal(&[0x07, 0x07, 0x11, 0x02, 0x00], 0), 1);
-        assert_eq!(refusal(&[0x06, 0x11, 0x02, 0x00], 0), 2);
-        assert_eq!(refusal(&[0x0d, 0x02, 0x02, 0x00, 0x09, 0x00], 0), 3);
-        assert_eq!(refusal(&[0x0d, 0x02, 0x01, 0x00, 0x09, 0x00], 0), 4);
+        assert_eq!(refusal(&[0x27, 0x07, 0x11, 0x02, 0x00], 0), 1);
+        assert_eq!(refusal(&[0x26, 0x11, 0x02, 0x00], 0), 2);
+        assert_eq!(refusal(&[0x2d, 0x02, 0x02, 0x00, 0x09, 0x00], 0), 3);
+        assert_eq!(refusal(&[0x2d, 0x02, 0x01, 0x00, 0x09, 0x00], 0), 4);
         // The table before the buckets.
-        assert_eq!(refusal(&[0x06, 0x04, 0x00, 0x00], 5), 5);
-        assert_eq!(refusal(&[0x06, 0x04, 0x00, 0x00, 0xff], 0), 5);
+        assert_eq!(refusal(&[0x26, 0x04, 0x00, 0x00], 5), 5);
+        assert_eq!(refusal(&[0x26, 0x04, 0x00, 0x00, 0xff], 0), 5);
         // The buckets by their bytes.
-        let buckets = |bytes: &[u8]| refusal(&[&[0x06, 4, 1, 0], bytes].concat(), 8);
+        let buckets = |bytes: &[u8]| refusal(&[&[0x26, 4, 1, 0], bytes].concat(), 8);
         assert_eq!(buckets(&[0xff, 0, 0, 0xff]), 13);
         assert_eq!(buckets(&[0x01, 0, 0, 0xff]), 14);
         assert_eq!(buckets(&[0x03, 0, 0, 1]), 14);

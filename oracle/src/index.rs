@@ -114,6 +114,13 @@ impl Settings {
         self.spread(self.offset_unchecked(value), bucket)
     }
 
+    /// The fingerprint of a hash, of whose low half the remainders are spread over 1 to 2^w - 1. The
+    /// division is one of 32 bits, which takes less time than one of 64.
+    #[inline]
+    fn fingerprint(self, hash: u64) -> u16 {
+        (hash as u32 % ((1u32 << self.width) - 1) + 1) as u16
+    }
+
     /// The fingerprint and the home bucket of a tag, where the settings are known to be good.
     #[inline]
     pub(crate) fn entry_unchecked(self, tag: &[u8]) -> Answer<(u16, u32)> {
@@ -121,8 +128,7 @@ impl Settings {
             return Err(7);
         }
         let hash = self.tag_hash(tag);
-        let fingerprint = (hash & ((1 << self.width) - 1)).max(1) as u16;
-        Ok((fingerprint, self.reduce(hash >> 32)))
+        Ok((self.fingerprint(hash), self.reduce(hash >> 32)))
     }
 }
 
@@ -198,6 +204,8 @@ pub fn candidates(settings: Settings, value: u16, bucket: u32) -> Answer<Vec<u32
 mod tests {
     use super::*;
     use crate::fnv_strings::KNOWN;
+    use crate::requests::Mix;
+    use std::collections::HashSet;
 
     fn check(rule: u32, width: u32, buckets: u32, mask: u32) -> Answer<()> {
         Settings::new(rule, width, buckets, mask).check()
@@ -244,17 +252,138 @@ mod tests {
 
     #[test]
     fn fingerprint_and_home() {
-        // "a" hashes to af63dc4c8601ec8c.
+        // "a" hashes to af63dc4c8601ec8c. By 2^w - 1 a number has the remainder that the sum of its
+        // digits to the base 2^w has.
+        assert_eq!(0x86 + 0x01e + 0xc8c, 3_376);
         let settings = Settings::new(PLAIN, 12, 4_096, 0);
-        assert_eq!(entry(settings, b"a"), Ok((0xc8c, 0xc4c)));
+        assert_eq!(entry(settings, b"a"), Ok((3_377, 0xc4c)));
+        assert_eq!(0x8601 + 0xec8c, 0x1_728d);
         let ring = Settings::new(RING, 16, 10, 0);
-        assert_eq!(entry(ring, b"a"), Ok((0xec8c, 0xaf63_dc4c % 5)));
-        // A hash whose low four bits are 0 has the fingerprint 1.
-        let zero = (0..=u8::MAX)
-            .find(|&b| fnv1a(&[b]).trailing_zeros() >= 4)
-            .unwrap();
-        let narrow = Settings::new(PLAIN, 4, 1, 0);
-        assert_eq!(entry(narrow, &[zero]), Ok((1, 0)));
+        assert_eq!(entry(ring, b"a"), Ok((0x728f, 0xaf63_dc4c % 5)));
+        // 8 + 6 + 0 + 1 + 14 + 12 + 8 + 12 is 61, and 6 * 10 + 1 is 61 too.
+        let narrow = Settings::new(MASKED, 4, 1, 0);
+        assert_eq!(entry(narrow, b"a"), Ok((2, 0)));
+    }
+
+    /// Every width, with the greatest fingerprint.
+    fn widths() -> impl Iterator<Item = (Settings, u32)> {
+        (4..=16).map(|width| (Settings::new(PLAIN, width, 4_096, 0), (1 << width) - 1))
+    }
+
+    /// The rule word by word, on numbers that are wide enough for all of it.
+    fn by_word(settings: Settings, hash: u64) -> u16 {
+        let remainder = u128::from(hash) % (1 << 32) % ((1 << settings.width) - 1);
+        (1 + remainder).try_into().expect("16 bits")
+    }
+
+    #[test]
+    fn fingerprints_at_the_edges() {
+        for (s, last) in widths() {
+            for (low, fingerprint) in [
+                (0, 1),
+                (1, 2),
+                (last - 2, last - 1),
+                (last - 1, last),
+                // Neither 0 nor 2^w.
+                (last, 1),
+                (last + 1, 2),
+                (2 * last - 1, last),
+                (2 * last, 1),
+                // 2^32 has the remainder 2^(32 mod w).
+                (u32::MAX, 1 << (32 % s.width)),
+            ] {
+                // The upper half names the home bucket and nothing else.
+                for high in [0, 1, last, 0x8000_0000, u32::MAX] {
+                    let hash = u64::from(high) << 32 | u64::from(low);
+                    assert_eq!(u32::from(s.fingerprint(hash)), fingerprint, "{hash:x}");
+                }
+            }
+            // With the upper half left in, 2^32 would be the start of another row.
+            assert_eq!(s.fingerprint(1 << 32), 1);
+            assert_ne!((1u64 << 32) % u64::from(last), 0);
+        }
+    }
+
+    #[test]
+    fn fingerprints_word_by_word() {
+        let mut mix = Mix(31);
+        for (s, last) in widths() {
+            let mut upper_half_matters = 0;
+            for _ in 0..20_000 {
+                let hash = mix.draw() >> mix.below(64);
+                let fingerprint = s.fingerprint(hash);
+                assert_eq!(fingerprint, by_word(s, hash), "{hash:x}");
+                assert!((1..=last).contains(&fingerprint.into()));
+                let whole = 1 + hash % u64::from(last);
+                upper_half_matters += u32::from(whole != fingerprint.into());
+            }
+            assert!(upper_half_matters > 5_000, "{upper_half_matters}");
+        }
+    }
+
+    /// In any 2^w - 1 low halves that follow each other each fingerprint comes up once. So over all
+    /// 2^32 each comes up as often as the others, but for those of the last few, which are one more
+    /// of each from 1 on.
+    #[test]
+    fn fingerprints_are_even() {
+        let mut mix = Mix(32);
+        for (s, last) in widths() {
+            let mut prints = |from: u32, count: u32| -> Vec<u32> {
+                let high = u64::from(mix.below(1 << 32)) << 32;
+                (from..=from + (count - 1))
+                    .map(|low| s.fingerprint(high | u64::from(low)).into())
+                    .collect()
+            };
+            let all: Vec<u32> = (1..=last).collect();
+            assert_eq!(prints(0, last), all);
+            let rounds = u32::MAX / last;
+            for from in [1, 77, last / 2, rounds / 2 * last, (rounds - 1) * last - 5] {
+                let mut row = prints(from, last);
+                row.sort_unstable();
+                assert_eq!(row, all, "{from}");
+            }
+            // The last whole row, and what is left of 2^32 after it.
+            assert_eq!(prints((rounds - 1) * last, last), all);
+            let left = u32::MAX - rounds * last + 1;
+            assert_eq!(prints(rounds * last, left), all[..left as usize]);
+            assert_eq!(left, 1 << (32 % s.width));
+        }
+    }
+
+    /// The same by counting, for low parts of fewer bits than 32.
+    #[test]
+    fn fewer_bits_are_even_too() {
+        for (s, last) in widths() {
+            for bits in 4..=18 {
+                let mut counts = vec![0; last as usize];
+                for low in 0..1u64 << bits {
+                    counts[usize::from(s.fingerprint(low)) - 1] += 1;
+                }
+                let (times, left) = ((1 << bits) / last, (1 << bits) % last);
+                for (i, count) in (0..).zip(counts) {
+                    assert_eq!(count, times + u32::from(i < left), "{bits} {i}");
+                }
+            }
+        }
+    }
+
+    /// And for all 32 bits, which takes a minute or two.
+    #[test]
+    #[ignore]
+    fn all_low_halves_are_even() {
+        for (s, last) in widths() {
+            let mut counts = vec![0u32; last as usize];
+            for low in 0..=u32::MAX {
+                counts[usize::from(s.fingerprint(0xdead_beef << 32 | u64::from(low))) - 1] += 1;
+            }
+            let (times, left) = (
+                (1u64 << 32) / u64::from(last),
+                (1u64 << 32) % u64::from(last),
+            );
+            for (i, count) in (0..).zip(counts) {
+                assert_eq!(u64::from(count), times + u64::from(i < left), "{i}");
+            }
+        }
     }
 
     const DEFAULTS: Settings = Settings::new(PLAIN, 12, 4_096, 0);
@@ -275,12 +404,13 @@ mod tests {
         for (salt, hash) in SALTED {
             let salted = DEFAULTS.with_salt(salt);
             assert_eq!(salted.tag_hash(b"a"), hash, "{salt:x}");
-            let low = (hash % 4_096) as u16;
-            assert_eq!(entry(salted, b"a"), Ok((low, (hash >> 32) as u32 % 4_096)));
+            let home = (hash >> 32) as u32 % 4_096;
+            assert_eq!(entry(salted, b"a"), Ok((by_word(DEFAULTS, hash), home)));
         }
-        assert_eq!(entry(DEFAULTS.with_salt(1), b"a"), Ok((0xe3f, 0xd4c)));
+        assert_eq!(0x86 + 0x01e + 0xe3f + 1, 3_812);
+        assert_eq!(entry(DEFAULTS.with_salt(1), b"a"), Ok((3_812, 0xd4c)));
         // A tag whose first byte has the same bit turned over is where the other was.
-        assert_eq!(entry(DEFAULTS.with_salt(1), b"`"), Ok((0xc8c, 0xc4c)));
+        assert_eq!(entry(DEFAULTS.with_salt(1), b"`"), Ok((3_377, 0xc4c)));
     }
 
     #[test]
@@ -322,41 +452,117 @@ mod tests {
         }
     }
 
-    /// No bit of a hash comes from a higher one. So of a salt the low w bits alone decide the
-    /// fingerprint, and where the count is a power of two those from 48 on change nothing.
+    /// Tags of one length.
+    fn herd() -> Vec<String> {
+        (0..1_000).map(|i| format!("UK {:012}", i * i)).collect()
+    }
+
+    /// No bit of a hash comes from a higher one. So of a salt the low 32 bits alone decide the
+    /// fingerprint, and where the count is a power of two those above the bits that name a bucket
+    /// change nothing.
     #[test]
     fn high_bits_of_a_salt() {
-        for byte in 0..=u8::MAX {
-            let tag = [byte, 7, byte ^ 0x55];
-            let (fingerprint, home) = entry(DEFAULTS, &tag).unwrap();
-            let salted = |salt| entry(DEFAULTS.with_salt(salt), &tag).unwrap();
-            assert_eq!(salted(0xffff_ffff_ffff_f000).0, fingerprint);
-            assert_ne!(salted(1 << 11).0, fingerprint);
-            assert_eq!(salted(1 << 43), (fingerprint, home ^ 1 << 11));
-            assert_eq!(salted(0xffff << 48), (fingerprint, home));
+        for (s, _) in widths() {
+            for tag in herd() {
+                let (fingerprint, home) = entry(s, tag.as_bytes()).unwrap();
+                let salted = |salt| entry(s.with_salt(salt), tag.as_bytes()).unwrap();
+                assert_eq!(salted(0xffff_ffff << 32).0, fingerprint);
+                assert_eq!(salted(1 << 43), (fingerprint, home ^ 1 << 11));
+                assert_eq!(salted(0x000f_ffff << 44), (fingerprint, home));
+            }
+        }
+    }
+
+    /// Each of the low 32 bits does. Where the lowest bit in which two salts differ is k, low halves
+    /// differ by an odd multiple of 2^k, below 2^32. From k = 33 - w on that is no multiple of
+    /// 2^w - 1, and every fingerprint is another; below it some stay.
+    #[test]
+    fn low_bits_of_a_salt() {
+        let mut mix = Mix(33);
+        let tags: Vec<Vec<u8>> = (0..1_000).map(|i| mix.bytes(1 + i % 64)).collect();
+        for (s, _) in widths() {
+            for bit in 0..32 {
+                let print = |salt, tag: &[u8]| entry(s.with_salt(salt), tag).unwrap().0;
+                let same = tags
+                    .iter()
+                    .filter(|tag| print(0, tag) == print(1 << bit, tag))
+                    .count();
+                let most = match bit + s.width >= 33 {
+                    true => 0,
+                    false => tags.len() / 4,
+                };
+                assert!(same <= most, "{} {bit}: {same}", s.width);
+            }
         }
     }
 
     /// Salts that agree in their low eight bits move the hashes of all tags of one length by the same
-    /// number, so that tags with one fingerprint stay together: a season's salt should differ there.
+    /// number. So their fingerprints go on round the row of 2^w - 1 by one of two numbers, and their
+    /// home buckets by one of two that are 1 apart; which of the two, the carry out of the low half
+    /// decides for both. Tags that had one fingerprint and one home bucket still do unless the carry
+    /// parts them: a season's salt should differ there.
     #[test]
     fn salts_with_one_low_byte() {
-        let moved = |from: u64, to: u64, tag: &[u8]| {
-            let hash = |salt| DEFAULTS.with_salt(salt).tag_hash(tag);
-            hash(to).wrapping_sub(hash(from))
-        };
-        let tags: Vec<String> = (0..1_000).map(|i| format!("UK {:012}", i * i)).collect();
+        let herd = herd();
+        let hash = |salt, tag: &String| DEFAULTS.with_salt(salt).tag_hash(tag.as_bytes());
+        let moved = |from, to, tag: &String| hash(to, tag).wrapping_sub(hash(from, tag));
         for (from, to) in [
             (0, 256),
             (0, 0x0123_4567_89ab_cd00),
             (7, 0xff00_0000_0000_1207),
+            (0, 1 << 32),
         ] {
-            let by = moved(from, to, tags[0].as_bytes());
-            assert!(tags.iter().all(|tag| moved(from, to, tag.as_bytes()) == by));
+            let by = moved(from, to, &herd[0]);
+            assert!(herd.iter().all(|tag| moved(from, to, tag) == by));
+            let (low, high) = (by % (1 << 32), by >> 32);
+            let mut carried = 0;
+            for (s, last) in widths() {
+                for tag in &herd {
+                    let carry = (hash(from, tag) % (1 << 32) + low) >> 32;
+                    carried += carry;
+                    let salted = |salt| entry(s.with_salt(salt), tag.as_bytes()).unwrap();
+                    let (fingerprint, home) = salted(from);
+                    // What a carry takes away is 2^32, with the remainder 2^(32 mod w).
+                    let back = carry << (32 % s.width);
+                    let last = u64::from(last);
+                    let print = (u64::from(fingerprint) - 1 + low + last - back) % last + 1;
+                    let bucket = (u64::from(home) + high + carry) % 4_096;
+                    assert_eq!(salted(to), (print as u16, bucket as u32), "{to:x} {tag}");
+                }
+            }
+            // Some are parted, but where the low halves stay.
+            let all = 13 * herd.len() as u64;
+            assert!((low == 0) == (carried == 0) && carried < all, "{to:x}");
         }
         for (from, to) in [(0, 1), (0, 0x0123_4567_89ab_cdef), (7, 6)] {
-            let by = moved(from, to, tags[0].as_bytes());
-            assert!(tags.iter().any(|tag| moved(from, to, tag.as_bytes()) != by));
+            let by = moved(from, to, &herd[0]);
+            assert!(herd.iter().any(|tag| moved(from, to, tag) != by));
+        }
+    }
+
+    /// What the last byte of a tag can do: it is put to the low bits of what goes before, and the low
+    /// half is multiplied by 435 = 3 * 5 * 29. Of these, 3 divides 2^w - 1 where w is even, and 15
+    /// does where 4 divides w. So tags that differ in their last digit alone have fingerprints that
+    /// far apart, but for how often the product goes beyond 2^32, which is the same for nearly all
+    /// digits. So of tags that count up many share a fingerprint at such a width, if it is small.
+    #[test]
+    fn the_last_byte_of_a_tag() {
+        for (s, last) in widths().filter(|(s, _)| s.width % 2 == 0) {
+            let step = if s.width % 4 == 0 { 15 } else { 3 };
+            assert_eq!((last % step, 435 % step), (0, 0));
+            for tag in herd() {
+                let before = fnv1a(tag.as_bytes());
+                let mut prints = HashSet::new();
+                for digit in b'0'..=b'9' {
+                    let (fingerprint, _) = entry(s, &[tag.as_bytes(), &[digit]].concat()).unwrap();
+                    let low = (before ^ u64::from(digit)) % (1 << 32);
+                    let beyond = (435 * low) >> 32;
+                    assert_eq!((u64::from(fingerprint) - 1 + beyond) % u64::from(step), 0);
+                    prints.insert(fingerprint);
+                }
+                // At width 4 it is the same one but for a digit that goes once more beyond.
+                assert!(s.width > 4 || prints.len() <= 2, "{tag}: {prints:?}");
+            }
         }
     }
 

@@ -7,7 +7,8 @@ use oracle::{holdfile, packed};
 
 /// A hold file, for settings and cells that are good.
 fn file_of(s: Settings, table: &[u16]) -> Vec<u8> {
-    let mut map = 0;
+    // The mark of the fingerprints, which has no bytes.
+    let mut map = 32;
     let mut fields = vec![];
     if s.rule != 0 {
         map += 1;
@@ -70,8 +71,11 @@ impl Bytes<'_> {
 fn settings_and_cells(bytes: &[u8], cells: usize) -> Answer<(Settings, Vec<u16>)> {
     let mut bytes = Bytes(bytes.iter());
     let map = bytes.one()?;
-    if map > 31 {
+    if map > 63 {
         return Err(12);
+    }
+    if map < 32 {
+        return Err(23);
     }
     let bits = [0, 1, 2, 3, 4].map(|i| map >> i & 1 == 1);
     let mut s = Settings::new(0, 12, 4_096, 0);
@@ -238,7 +242,7 @@ fn damage(bytes: &mut Vec<u8>, mix: &mut Mix) {
             0 => bytes.truncate(mix.below(n + 1) as usize),
             1 => bytes.push(mix.draw() as u8),
             // The head of a file is short, and its faults are many.
-            2 if n > 0 => bytes[mix.below(n.min(8)) as usize] = mix.below(34) as u8,
+            2 if n > 0 => bytes[mix.below(n.min(8)) as usize] = mix.below(66) as u8,
             3 if n > 0 => bytes[mix.below(n) as usize] ^= 1 << mix.below(8),
             _ if n > 0 => bytes[mix.below(n) as usize] = mix.draw() as u8,
             _ => {}
@@ -249,7 +253,7 @@ fn damage(bytes: &mut Vec<u8>, mix: &mut Mix) {
 #[test]
 fn files() {
     let mut mix = Mix(21);
-    let mut seen = [0; 21];
+    let mut seen = [0; 24];
     let mut salted = 0;
     for _ in 0..60_000 {
         let s = settings(&mut mix);
@@ -276,7 +280,7 @@ fn files() {
             }
         }
     }
-    for number in [0, 1, 2, 3, 4, 5, 11, 12, 13, 14, 15] {
+    for number in [0, 1, 2, 3, 4, 5, 11, 12, 13, 14, 15, 23] {
         assert!(seen[number] > 100, "{seen:?}");
     }
     assert!(salted > 1_000, "{salted}");
@@ -286,7 +290,7 @@ fn files() {
 fn packed_forms() {
     let rows = rows();
     let mut mix = Mix(22);
-    let mut seen = [0; 21];
+    let mut seen = [0; 24];
     for _ in 0..20_000 {
         let s = settings(&mut mix);
         let table = cells(s, &mut mix);
@@ -354,7 +358,7 @@ mod fast_forms {
     use oracle::{branch_free, holdfile, packed};
 
     /// How often each number was answered; 0 is for good calls.
-    type Seen = [usize; 21];
+    type Seen = [usize; 24];
 
     fn count<T>(seen: &mut Seen, answer: Answer<T>) {
         seen[answer.err().unwrap_or(0) as usize] += 1;
@@ -504,7 +508,7 @@ mod fast_forms {
     #[test]
     fn small_tables() {
         let mut mix = Mix(23);
-        let mut seen = [[0; 21]; 4];
+        let mut seen = [[0; 24]; 4];
         for _ in 0..4_000 {
             let s = settings(&mut mix);
             let table = cells(s, &mut mix);
@@ -518,7 +522,7 @@ mod fast_forms {
     #[test]
     fn each_width_and_bucket_count() {
         let mut mix = Mix(24);
-        let mut seen = [[0; 21]; 4];
+        let mut seen = [[0; 24]; 4];
         for width in 4..=16 {
             for buckets in 1..=40 {
                 let s = match buckets % 2 {
@@ -539,7 +543,7 @@ mod fast_forms {
     #[test]
     fn large_tables() {
         let mut mix = Mix(25);
-        let mut seen = [[0; 21]; 4];
+        let mut seen = [[0; 24]; 4];
         for width in 4..=16 {
             for s in [
                 Settings::new(PLAIN, width, 4_096, 0),
@@ -568,7 +572,7 @@ mod fast_forms {
     #[test]
     fn largest_tables() {
         let mut mix = Mix(26);
-        let mut seen = [[0; 21]; 4];
+        let mut seen = [[0; 24]; 4];
         for s in [
             Settings::new(PLAIN, 16, 65_536, 0),
             Settings::new(PLAIN, 12, 65_536, 0),
@@ -595,7 +599,7 @@ mod fast_forms {
     #[test]
     fn walks_that_do_not_meet() {
         let mut mix = Mix(27);
-        let mut seen = [0; 21];
+        let mut seen = [0; 24];
         for buckets in [1_024, 1_026, 2_000, 4_096] {
             for cell in [0x000f, 0x0f0f, 0x0f01, 0x0100, 0x0007] {
                 let s = Settings::new(RING, 12, buckets, 0);
@@ -619,7 +623,7 @@ mod fast_forms {
     #[test]
     fn all_leads() {
         let mut mix = Mix(28);
-        let mut seen = [0; 21];
+        let mut seen = [0; 24];
         for width in 4..=16 {
             let s = Settings::new(PLAIN, width, 65_536, 0);
             // Rests of few values make many equal cells.
@@ -641,7 +645,7 @@ mod fast_forms {
     #[test]
     fn all_faults_of_a_packed_bucket() {
         let mut mix = Mix(29);
-        let mut seen = [0; 21];
+        let mut seen = [0; 24];
         let rows = rows();
         for width in 4..=16 {
             let s = Settings::new(RING, width, 46, 0);

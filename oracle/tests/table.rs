@@ -413,10 +413,11 @@ fn copies_in_any_table() {
 
 /// What the salt is for: a clear tag that reads held under one salt does not under another, but by
 /// chance. Salts that agree in the low eight bits are of little use. And a table that is looked at
-/// with another salt is another list.
+/// with another salt is another list. The width is 9, since at 8 too many tags that count up share a
+/// fingerprint.
 #[test]
 fn other_salts_have_other_unlucky_tags() {
-    let plain = Settings::new(PLAIN, 8, 4_096, 0);
+    let plain = Settings::new(PLAIN, 9, 4_096, 0);
     let herd: Vec<String> = (0..40_000)
         .map(|i| format!("UK {} {:05}", 639_951 + i / 2_000, i % 2_000))
         .collect();
@@ -439,7 +440,7 @@ fn other_salts_have_other_unlucky_tags() {
         clear.filter(|&i| reads(salt, &herd[i])).collect()
     };
     let first = unlucky(0);
-    assert!(first.len() > 500, "{}", first.len());
+    assert!(first.len() > 300, "{}", first.len());
     for salt in [1, 2, 3, 2_027, 0x9e37_79b9_7f4a_7c15, u64::MAX] {
         let both = unlucky(salt).intersection(&first).count();
         assert!(

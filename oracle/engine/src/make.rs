@@ -102,7 +102,7 @@ pub fn cells(mix: &mut Mix, settings: Settings, kind: Cells) -> Vec<u16> {
 /// Bytes added, taken away or changed.
 pub fn damage(mix: &mut Mix, bytes: &mut Vec<u8>) {
     let n = bytes.len() as u64;
-    match mix.below(8) {
+    match mix.below(9) {
         0 => bytes.truncate(mix.below(n + 1) as usize),
         1 => {
             let more = 1 + mix.below(3) as usize;
@@ -111,6 +111,7 @@ pub fn damage(mix: &mut Mix, bytes: &mut Vec<u8>) {
         _ if n == 0 => {}
         // The head of a file is short, and its faults are many.
         2 | 3 => bytes[mix.below(n.min(8)) as usize] = mix.below(34) as u8,
+        8 => bytes[0] = mix.below(66) as u8,
         4 => bytes[mix.below(n) as usize] = one_of(mix, &[0, 1, 15, 16, 0x80, 0xff]),
         5 => bytes[mix.below(n) as usize] ^= 1 << mix.below(8),
         _ => bytes[mix.below(n) as usize] = mix.draw() as u8,

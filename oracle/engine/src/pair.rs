@@ -135,7 +135,7 @@ pub struct Pair {
     input: Twin<u8>,
     out: Twin<u8>,
     calls: u64,
-    refused: [u64; 21],
+    refused: [u64; 24],
 }
 
 impl Pair {
@@ -152,7 +152,7 @@ impl Pair {
             out: Twin::new(0, EDGE, || 0),
             mix,
             calls: 0,
-            refused: [0; 21],
+            refused: [0; 24],
         };
         pair.size(0, 0, 0);
         pair

@@ -77,29 +77,88 @@ fn tags() {
             pair.run(Lend::of(bad.with_salt(salt)), Call::Home(&tag));
         }
     }
-    // A hash whose low bits are 0 has the fingerprint 1.
-    let narrow = Lend::of(Settings::new(PLAIN, 4, 1, 0));
-    let ones = (0..=u8::MAX)
-        .filter(|&byte| pair.run(narrow, Call::Fingerprint(&[byte])) == 1)
-        .count();
-    assert!(ones > 16, "{ones}");
     pair.done(&[1, 2, 3, 4, 7]);
 }
 
-/// "a" under salts, where the answers are known, and that the salt is no part of an offset.
+/// The fingerprint as the rule says it, of a hash that is made here. Low halves at the edges of a row
+/// are found by trying tags, so that every width has its least and its greatest fingerprint, and those
+/// where another modulus, the whole hash or a bit pattern would give another.
+#[test]
+fn fingerprints() {
+    let mut pair = Pair::new("fingerprints");
+    let by_word = |hash: u64, width: u32| {
+        let low = u128::from(hash) % (1 << 32);
+        i64::try_from(1 + low % ((1 << width) - 1)).expect("a small number")
+    };
+    for width in 4..=16 {
+        let last = (1u32 << width) - 1;
+        let mut met = [false; 6];
+        for n in 0..=u32::MAX {
+            let tag = n.wrapping_mul(0x9e37_79b1).to_be_bytes();
+            let hash = index::fnv1a(&tag);
+            let low = hash as u32;
+            let edges = [
+                low % last == 0,
+                low % last == last - 1,
+                low & last == 0,
+                low & last == last,
+                low & last == last - 1,
+                hash % u64::from(last) == 0,
+            ];
+            let new = edges.iter().zip(met).any(|(&edge, met)| edge && !met);
+            if n > 2_000 && !new {
+                match met.contains(&false) {
+                    true => continue,
+                    false => break,
+                }
+            }
+            for (met, edge) in met.iter_mut().zip(edges) {
+                *met |= edge;
+            }
+            for (rule, buckets) in [(PLAIN, 1), (RING, 6), (MASKED, 65_536)] {
+                let lend = Lend::of(Settings::new(rule, width, buckets, 0));
+                let answer = pair.run(lend, Call::Fingerprint(&tag));
+                assert_eq!(answer, by_word(hash, width), "{tag:?} {width}");
+                assert!((1..=last.into()).contains(&answer));
+            }
+        }
+    }
+    pair.done(&[]);
+}
+
+/// At width 4 each of the fifteen fingerprints comes up as often as the others, as far as hashes do.
+#[test]
+fn fingerprints_are_even() {
+    let mut pair = Pair::new("even fingerprints");
+    let lend = Lend::of(Settings::new(PLAIN, 4, 1, 0));
+    let mut counts = [0; 15];
+    for _ in 0..30_000 {
+        let tag = pair.mix.bytes(8);
+        counts[pair.run(lend, Call::Fingerprint(&tag)) as usize - 1] += 1;
+    }
+    // 2,000 of each, and no more than ten times their spread beside it. As 1 for 0, 1 would have 3,750.
+    for count in counts {
+        assert!((1_550..2_450).contains(&count), "{counts:?}");
+    }
+    pair.done(&[]);
+}
+
+/// "a" under salts, where the hashes were worked out elsewhere, and that the salt is no part of an
+/// offset. A number has the remainder by 4,095 that the sum of its digits to the base 4,096 has.
 #[test]
 fn known_salts() {
     let mut pair = Pair::new("known salts");
     let plain = Settings::new(PLAIN, 12, 4_096, 0);
-    for (salt, fingerprint, home) in [
-        (0, 0xc8c, 0xc4c),
-        (1, 0xe3f, 0xd4c),
-        (1 << 32, 0xc8c, 0xdff),
-        (1 << 63, 0xc8c, 0xc4c),
-        (u64::MAX, 0x1c1, 0x2b3),
-        (index::FNV_START, 0x4d3, 0x100),
-        (0x0123_4567_89ab_cdef, 0xc91, 0x4b0),
+    for (salt, digits, home) in [
+        (0, 0x086 + 0x01e + 0xc8c, 0xc4c),
+        (1, 0x086 + 0x01e + 0xe3f, 0xd4c),
+        (1 << 32, 0x086 + 0x01e + 0xc8c, 0xdff),
+        (1 << 63, 0x086 + 0x01e + 0xc8c, 0xc4c),
+        (u64::MAX, 0x079 + 0xfe1 + 0x1c1 - 4_095, 0x2b3),
+        (index::FNV_START, 0x00a + 0x4d3, 0x100),
+        (0x0123_4567_89ab_cdef, 0x001 + 0x608 + 0xc91 - 4_095, 0x4b0),
     ] {
+        let fingerprint = 1 + digits;
         let lend = Lend::of(plain.with_salt(salt));
         let answer = pair.run(lend, Call::Fingerprint(b"a"));
         assert_eq!(answer, fingerprint, "{salt:x}");
@@ -137,12 +196,16 @@ fn salts_and_first_bytes() {
 }
 
 /// Each bit of a salt. As no bit of a hash comes from a higher one, the lowest bit in which two
-/// salts differ is one in which all their hashes differ, and no lower one is.
+/// salts differ is one in which all their hashes differ, and no lower one is. So the bits from 32 on
+/// reach no fingerprint, and those from 48 on nothing here. Below 32, low halves differ by an odd
+/// multiple of 2^bit: from bit 17 on the fingerprints differ, since so small a multiple is none of
+/// 2^16 - 1, and below that they do but by chance.
 #[test]
 fn bits_of_a_salt() {
     let mut pair = Pair::new("bits of a salt");
     let plain = Settings::new(PLAIN, 16, 65_536, 0);
     for bit in 0..64 {
+        let mut changed = 0;
         for _ in 0..40 * long() {
             let length = 1 + pair.mix.below(64) as usize;
             let tag = pair.mix.bytes(length);
@@ -153,19 +216,25 @@ fn bits_of_a_salt() {
                 (fingerprint, pair.run(lend, Call::Home(&tag)))
             };
             let (one, other) = (entry(salt), entry(salt ^ 1 << bit));
-            let (fingerprints, homes) = (one.0 ^ other.0, one.1 ^ other.1);
+            let (same, homes) = (one.0 == other.0, one.1 ^ other.1);
+            changed += u32::from(!same);
             match bit {
-                // A fingerprint of 1 may be that of a hash whose low bits are 0.
-                0..=15 if one.0 == 1 || other.0 == 1 => {}
-                0..=15 => assert_eq!(fingerprints.trailing_zeros(), bit, "{salt:x}"),
-                16..=31 => assert_eq!(fingerprints, 0, "{salt:x}"),
-                32..=47 => {
-                    let found = (fingerprints, homes.trailing_zeros());
-                    assert_eq!(found, (0, bit - 32), "{salt:x}");
+                0..=16 => {}
+                17..=30 => assert!(!same, "{salt:x}"),
+                // By 2^31 one way or the other, with the remainder 2^15.
+                31 => {
+                    let by = (one.0 - other.0).rem_euclid(0xffff);
+                    assert!([0x8000, 0x7fff].contains(&by), "{salt:x}");
                 }
-                _ => assert_eq!((fingerprints, homes), (0, 0), "{salt:x}"),
+                32..=47 => {
+                    let found = (same, homes.trailing_zeros());
+                    assert_eq!(found, (true, bit - 32), "{salt:x}");
+                }
+                _ => assert_eq!((same, homes), (true, 0), "{salt:x}"),
             }
         }
+        // One in 65,535 stays by chance.
+        assert!(bit > 16 || changed > 20 * long(), "{bit}: {changed}");
     }
     pair.done(&[]);
 }
@@ -319,7 +388,7 @@ fn empty_buffers() {
         expect(whole.room(0), Call::FileWrite, -16);
         expect(whole.room(0), Call::PackedWrite, -16);
         // A good file of a table that is not there.
-        pair.set_input(0, &[0x06, 4, 1, 0, 0]);
+        pair.set_input(0, &[0x26, 4, 1, 0, 0]);
         pair.set_input(5, &[0]);
         assert_eq!(pair.run(none.input(6), Call::FileRead), -5);
         assert_eq!(pair.run(whole.input(6), Call::FileRead), 0);

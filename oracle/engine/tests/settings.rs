@@ -12,6 +12,9 @@ use std::io::{self, Write};
 const SIZES: [usize; 5] = [1, 1, 2, 2, 8];
 const DEFAULTS: [u64; 5] = [0, 12, 4_095, 0, 0];
 
+/// The map bit that stands in every file: its fingerprints are spread over the width.
+const EVEN: u8 = 0x20;
+
 fn stands(map: u8, field: usize) -> bool {
     map >> field & 1 == 1
 }
@@ -19,8 +22,11 @@ fn stands(map: u8, field: usize) -> bool {
 /// What a header names, or its refusal.
 fn header(bytes: &[u8]) -> Answer<Settings> {
     let (&map, mut rest) = bytes.split_first().ok_or(11u32)?;
-    if map > 31 {
+    if map > 63 {
         return Err(12);
+    }
+    if map < 32 {
+        return Err(23);
     }
     let mut values = DEFAULTS;
     for (field, &size) in SIZES.iter().enumerate() {
@@ -61,14 +67,14 @@ fn spelled(map: u8, values: [u64; 5]) -> Vec<u8> {
 /// The engine, and how many calls of it there were, by their answer.
 struct Held {
     mix: Mix,
-    answers: [u64; 21],
+    answers: [u64; 24],
 }
 
 impl Held {
     fn new(name: &str) -> Self {
         Held {
             mix: Pair::new(name).mix,
-            answers: [0; 21],
+            answers: [0; 24],
         }
     }
 
@@ -108,7 +114,7 @@ impl Held {
         let calls = self.answers.iter().sum::<u64>();
         // Past the capture of a test that passes; a line that cannot be written is no fault of the engine.
         let _ = writeln!(io::stderr(), "{name}: {calls} calls");
-        for answer in [0, 1, 2, 3, 4, 11, 12] {
+        for answer in [0, 1, 2, 3, 4, 11, 12, 23] {
             assert!(self.answers[answer] > 0, "no call answered {answer}");
         }
     }
@@ -139,8 +145,8 @@ fn maps_and_truncations() {
                         for &salt in of(4) {
                             whole_and_cut(&mut held, map, [rule, width, less, mask, salt]);
                         }
-                        // High bits come before all else.
-                        if map > 31 {
+                        // What the map alone is refused for comes before all else.
+                        if !(32..64).contains(&map) {
                             break;
                         }
                     }
@@ -159,11 +165,14 @@ fn whole_and_cut(held: &mut Held, map: u8, values: [u64; 5]) {
     // What follows the header is not looked at.
     let whole = held.named(&bytes, length);
     assert_eq!(held.named(&bytes, length + 3), whole);
-    if map > 31 {
-        return;
-    }
+    let short = match map {
+        0..=31 => -23,
+        32..=63 => -11,
+        _ => -12,
+    };
+    assert!(whole == short || short == -11, "{bytes:02x?}");
     for count in 1..length {
-        assert_eq!(held.named(&bytes, count), -11);
+        assert_eq!(held.named(&bytes, count), short, "{bytes:02x?}");
     }
 }
 
@@ -175,22 +184,27 @@ fn salts() {
     let bytes = (0..8).flat_map(|at| (0..=255u64).map(move |byte| byte << (8 * at)));
     for salt in bits.chain(bytes) {
         for (map, values) in [
-            (0x10, [0, 12, 4_095, 0]),
-            (0x12, [0, 4, 4_095, 0]),
-            (0x15, [1, 12, 5, 0]),
-            (0x19, [2, 12, 4_095, 0]),
-            (0x1f, [2, 16, 15, 12]),
+            (0x30, [0, 12, 4_095, 0]),
+            (0x32, [0, 4, 4_095, 0]),
+            (0x35, [1, 12, 5, 0]),
+            (0x39, [2, 12, 4_095, 0]),
+            (0x3f, [2, 16, 15, 12]),
         ] {
             let [rule, width, less, mask] = values;
             let bytes = spelled(map, [rule, width, less, mask, salt]);
             let answer = held.named(&bytes, bytes.len());
             assert_eq!(answer, if salt == 0 { -12 } else { 0 }, "{bytes:02x?}");
             whole_and_cut(&mut held, map, [rule, width, less, mask, salt]);
-            // With a bit of the map that has no field.
-            for high in [0x20, 0x40, 0x80] {
-                let bytes = spelled(map | high, [rule, width, less, mask, salt]);
-                assert_eq!(held.named(&bytes, bytes.len()), -12);
+            // With a bit of the map that has no field, whatever the fingerprints are.
+            for high in [0x40, 0x80, 0xc0] {
+                for map in [map | high, map ^ EVEN | high] {
+                    let bytes = spelled(map, [rule, width, less, mask, salt]);
+                    assert_eq!(held.named(&bytes, bytes.len()), -12);
+                }
             }
+            // Of earlier fingerprints, whether the salt is good or not.
+            let bytes = spelled(map ^ EVEN, [rule, width, less, mask, salt]);
+            assert_eq!(held.named(&bytes, bytes.len()), -23);
         }
     }
     // A fault of each of the settings, behind a good salt.
@@ -209,7 +223,8 @@ fn salts() {
 /// The map that the writer makes of these values.
 fn map_of(values: [u64; 5]) -> u8 {
     let differs = |field: usize| u8::from(values[field] != DEFAULTS[field]) << field;
-    differs(0) | differs(1) | differs(2) | u8::from(values[0] == 2) << 3 | differs(4)
+    let fields = differs(0) | differs(1) | differs(2) | u8::from(values[0] == 2) << 3 | differs(4);
+    fields | EVEN
 }
 
 /// Every change of one byte, of good headers and bad.
@@ -267,7 +282,7 @@ fn random_bytes() {
         let count = held.mix.below(20) as usize;
         let mut bytes = held.mix.bytes(count);
         if count > 0 && held.mix.below(8) > 0 {
-            bytes[0] %= 32;
+            bytes[0] = (bytes[0] % 32) | EVEN;
         }
         for byte in bytes.iter_mut().skip(1) {
             if held.mix.below(2) == 0 {

@@ -573,7 +573,8 @@ fn prepare(mix: &mut Mix, folder: &Folder, log: u32) {
         let first = file.len() - s.buckets as usize - 2 * filled;
         let last = form.len() - 1;
         for (name, bytes) in [
-            ("head .hold", with(&file, 0, &[file[0] | 0x20])),
+            ("head .hold", with(&file, 0, &[file[0] | 0x40])),
+            ("early .hold", with(&file, 0, &[file[0] ^ 0x20])),
             ("map .hold", with(&file, first, &[0x1f])),
             ("row .pack", with(&form, 0, &[0xff, 0xff])),
             ("order .pack", with(&vec![0; form.len()], 1, &[0x10])),
@@ -824,7 +825,10 @@ impl Maker {
     fn prepared(&mut self) {
         let i = self.mix.below(SETS.into());
         if self.mix.below(2) == 0 {
-            let kind = one_of(&mut self.mix, &["bad", "bad", "bad", "head", "map"]);
+            let kind = one_of(
+                &mut self.mix,
+                &["bad", "bad", "bad", "head", "early", "map"],
+            );
             return self.say_to("load", format!("{kind} {i}.hold"));
         }
         self.say_to("load", format!("{i}.hold"));
@@ -929,7 +933,7 @@ impl Maker {
 #[test]
 fn random_scripts() {
     let name = "random scripts";
-    let mut refused = [0; 21];
+    let mut refused = [0; 24];
     let (mut count, mut moves) = (0, 0);
     for round in 0..8 * long() {
         let name = format!("{name} {round}");
@@ -959,7 +963,7 @@ fn random_scripts() {
         name,
         &format!(": {count} lines; refused {refused:?}; most moves {moves}"),
     );
-    for n in [1, 2, 3, 4, 7, 8, 9, 11, 12, 13, 14, 15, 18, 19, 20] {
+    for n in [1, 2, 3, 4, 7, 8, 9, 11, 12, 13, 14, 15, 18, 19, 20, 23] {
         assert!(refused[n] > 0, "no line was refused with {n}");
     }
     assert!(moves > 2, "no hold had more than {moves} moves");
@@ -1070,9 +1074,9 @@ fn known_answers() {
             "stats",
             "entries 0, buckets 4096, load 0.0 %, longest relocation 0",
         ),
-        // "a" hashes to af63dc4c8601ec8c.
+        // "a" hashes to af63dc4c8601ec8c, and 1 + 0x86 + 0x01e + 0xc8c is 3377.
         ("hold a", "accepted, 0 moves"),
-        ("view 3148", "bucket 3148: 3212 0 0 0"),
+        ("view 3148", "bucket 3148: 3377 0 0 0"),
         ("lookup 0x61", "held, 1 order"),
         ("save f", "saved, 4099 bytes"),
         ("pack p", "packed, 22528 bytes"),
@@ -1080,7 +1084,7 @@ fn known_answers() {
         ("lookup a", "clear"),
         ("hold a", "accepted, 0 moves"),
         ("hold a", "accepted, 0 moves"),
-        ("view 0", "bucket 0: 12 12 0 0"),
+        ("view 0", "bucket 0: 2 2 0 0"),
         ("lookup a", "held, 2 orders"),
         (
             "stats",
@@ -1098,7 +1102,7 @@ fn known_answers() {
         ("lookup a", "held, 1 order"),
         ("clear", "cleared"),
         ("unpack p", "unpacked, 1 entry"),
-        ("view 3148", "bucket 3148: 0 0 0 3212"),
+        ("view 3148", "bucket 3148: 0 0 0 3377"),
         ("  # as it is\t", "  # as it is\t"),
         ("\t", "\t"),
         ("settings 1 16 6 0", "cleared"),
@@ -1172,7 +1176,7 @@ fn known_salts() {
         ("settings 0 12 4096 0 1", "cleared"),
         ("settings", "rule 0, width 12, buckets 4096, mask 0, salt 1"),
         ("hold a", "accepted, 0 moves"),
-        ("view 3404", "bucket 3404: 3647 0 0 0"),
+        ("view 3404", "bucket 3404: 3812 0 0 0"),
         ("save f", "saved, 4107 bytes"),
         ("pack p", "packed, 22528 bytes"),
         // The same cells with no salt.
@@ -1192,7 +1196,7 @@ fn known_salts() {
             "rule 0, width 12, buckets 4096, mask 0, salt 81985529216486895",
         ),
         ("hold a", "accepted, 0 moves"),
-        ("view 1200", "bucket 1200: 3217 0 0 0"),
+        ("view 1200", "bucket 1200: 668 0 0 0"),
         // A list that is cleared keeps its salt.
         ("clear", "cleared"),
         (
@@ -1218,9 +1222,9 @@ fn known_salts() {
         assert_eq!(answer, expected, "{line}");
     }
     let file = folder.get("f");
-    assert_eq!(file[..9], [0x10, 1, 0, 0, 0, 0, 0, 0, 0]);
+    assert_eq!(file[..9], [0x30, 1, 0, 0, 0, 0, 0, 0, 0]);
     let mut all = [0xff; 13];
-    all[..4].copy_from_slice(&[0x16, 4, 0, 0]);
+    all[..4].copy_from_slice(&[0x36, 4, 0, 0]);
     all[12] = 0;
     assert_eq!(folder.get("g"), all);
 }
@@ -1349,13 +1353,26 @@ fn moves() {
     compare(name, &maker.script, &maker.said, &got);
 }
 
+/// The day at the yard by which the tool is shown, with its stored answers.
+#[test]
+fn day_at_the_yard() {
+    let folder = Folder::new("day");
+    let earlier = include_bytes!("../../../crates/gedrunelj/data/earlier.hold");
+    folder.put("earlier.hold", earlier);
+    let script = include_bytes!("../../../crates/gedrunelj/data/day.txt");
+    let answers = check("day at the yard", &folder, script, Way::Argument);
+    let stored = include_str!("../../../crates/gedrunelj/stdout");
+    assert!(answers.iter().eq(stored.lines()));
+}
+
 /// Every number that a line can be refused with has a meaning of its own.
 #[test]
 fn meanings() {
     let folder = Folder::new("meanings");
     let file = hold_file(Settings::new(PLAIN, 4, 1, 0), &[0, 9, 0, 3]);
     folder.put("short", &file[..8]);
-    folder.put("head", &with(&file, 0, &[0x26]));
+    folder.put("head", &with(&file, 0, &[0x66]));
+    folder.put("early", &with(&file, 0, &[0x06]));
     folder.put("map", &with(&file, 4, &[0x1a]));
     folder.put("print", &with(&file, 5, &[0]));
     folder.put("more", &[&file[..], &[0]].concat());
@@ -1378,6 +1395,7 @@ fn meanings() {
         ("unpack row", 18),
         ("unpack order", 19),
         ("unpack end", 20),
+        ("load early", 23),
     ];
     let mut script = vec!["settings 0 6 1 0"];
     script.extend(["hold a"; 4]);
@@ -1471,6 +1489,8 @@ fn fullest_files() {
     folder.put("one less", &file[..589_838]);
     folder.put("packed", &packed_form(s, &table));
     folder.put("zeros", &vec![0; 2_000_000]);
+    // An empty list of the default settings, and zeros behind it.
+    folder.put("empty", &with(&vec![0; 2_000_000], 0, &[0x20]));
     let answers = check_lines(
         name,
         &folder,
@@ -1486,7 +1506,7 @@ fn fullest_files() {
             "load two more",
             "load far more",
             "load one less",
-            "load zeros",
+            "load empty",
             "unpack full",
             "unpack zeros",
             "stats",
@@ -1794,7 +1814,7 @@ fn saved_over() {
         ],
     );
     assert_eq!(answers[14], "saved, 7 bytes");
-    assert_eq!(folder.get("f"), [6, 4, 0, 0, 1, 12, 0]);
+    assert_eq!(folder.get("f"), [0x26, 4, 0, 0, 1, 2, 0]);
     assert_eq!(folder.get("g").len(), 2);
     assert_eq!(folder.names(), ["f", "g"]);
 }

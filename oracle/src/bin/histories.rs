@@ -418,6 +418,18 @@ impl Script {
         }
     }
 
+    /// The widths that are not among these, under each rule in turn.
+    fn other_widths(&mut self) {
+        for width in (5..12).chain(13..16) {
+            let s = match width % 3 {
+                0 => Settings::new(PLAIN, width, 4, 0),
+                1 => Settings::new(RING, width, 6, 0),
+                _ => Settings::new(MASKED, width, 4, 1),
+            };
+            self.history(s, 100_000);
+        }
+    }
+
     /// Cells written raw, most of them of 2^w and above, with a few empty ones for a search to end
     /// in, and a table with none.
     fn raw(&mut self, s: Settings, empty: u32) {
@@ -596,6 +608,7 @@ fn requests() -> Vec<String> {
     script.refusals();
     script.lengths();
     script.all_small();
+    script.other_widths();
     script.all_raw();
     script.all_large();
     script.all_salted();
@@ -630,7 +643,7 @@ mod tests {
             ("set 1 65535", "set"),
             ("set 4 1", "none"),
             ("hold 61", "accepted 0"),
-            ("cells", "3212 65535 0 0"),
+            ("cells", "3377 65535 0 0"),
             ("lookup 61", "copies 1"),
             ("lookup 62", "copies 0"),
             ("hold 61", "accepted 0"),
@@ -652,7 +665,7 @@ mod tests {
             ("open 0 12 1 0 1 4 2", "open"),
             ("clear", "cleared"),
             ("hold 61", "accepted 0"),
-            ("cells", "3647 0 0 0"),
+            ("cells", "3812 0 0 0"),
             ("lookup 61", "copies 1"),
             ("lookup 60", "copies 0"),
             ("open 0 12 1 0 0 4 2", "open"),
@@ -663,7 +676,7 @@ mod tests {
             ("lookup 61", "copies 2"),
             ("open 0 12 1 0 18446744073709551615 4 2", "open"),
             ("hold 61", "accepted 0"),
-            ("view 0", "3647 3647 449 0"),
+            ("view 0", "3812 3812 541 0"),
         ] {
             assert_eq!(state.answer(request), answer, "{request}");
         }

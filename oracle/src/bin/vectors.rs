@@ -130,20 +130,38 @@ fn tag_requests(out: &mut Requests, mix: &mut Mix) {
         }
         out.tag(s, b"foobar");
     }
-    // Short tags whose hash ends in zeros, so that the fingerprint is 1 in place of 0.
-    for (width, count) in [(4, 4), (8, 3), (12, 2), (16, 1)] {
-        let zeros = (0..=u32::MAX)
-            .map(|n| n.to_le_bytes())
-            .filter(|tag| index::fnv1a(tag).trailing_zeros() >= width);
-        for tag in zeros.take(count) {
-            out.tag(Settings::new(PLAIN, width, 4_096, 0), &tag);
-            out.tag(Settings::new(RING, width, 6, 0), &tag);
-            out.tag(Settings::new(MASKED, width, 1_024, 77), &tag);
-        }
+    for width in 4..=16 {
+        fingerprint_requests(out, mix, width);
     }
     for length in [66, 128, 256, 1_000] {
         let tag = mix.bytes(length);
         out.tag(Settings::new(PLAIN, 12, 4_096, 0), &tag);
+    }
+}
+
+/// Tags by the low half of their hash: with the least fingerprint and the greatest; with low bits that
+/// are all 0, all 1 or one less, where 2^w in place of 2^w - 1 would show; and any.
+fn fingerprint_requests(out: &mut Requests, mix: &mut Mix, width: u32) {
+    let last = (1u32 << width) - 1;
+    let kinds: [&dyn Fn(u32) -> bool; 5] = [
+        &|low| low % last == 0,
+        &|low| low % last == last - 1,
+        &|low| low & last == 0,
+        &|low| low & last == last,
+        &|low| low & last == last - 1,
+    ];
+    let short = |kind: &dyn Fn(u32) -> bool| -> [u8; 4] {
+        (0..=u32::MAX)
+            .map(u32::to_le_bytes)
+            .find(|tag| kind(index::fnv1a(tag) as u32))
+            .expect("every remainder has a short tag")
+    };
+    let mut tags: Vec<Vec<u8>> = kinds.iter().map(|kind| short(kind).to_vec()).collect();
+    tags.extend([5, 15, 64].map(|length| mix.bytes(length)));
+    for tag in tags {
+        out.tag(Settings::new(PLAIN, width, 4_096, 0), &tag);
+        out.tag(Settings::new(RING, width, 6, 0), &tag);
+        out.tag(Settings::new(MASKED, width, 1_024, 77), &tag);
     }
 }
 
@@ -316,7 +334,7 @@ fn salted_requests(out: &mut Requests, mix: &mut Mix) {
         let tag = mix.bytes(length);
         out.tag(s, &tag);
     }
-    // From 0 on, bytes of 0 leave the hash at 0: the fingerprint is 1, and so it is at every width.
+    // From 0 on, bytes of 0 leave the hash at 0, and at every width the fingerprint is 1.
     for width in 4..=16 {
         let s = Settings::new(PLAIN, width, 4_096, 0).with_salt(index::FNV_START);
         out.tag(s, &[0; 64]);
@@ -378,10 +396,10 @@ mod tests {
         assert_eq!(answer("settings 1 12 6 0 0"), "good");
         assert_eq!(answer("settings 1 12 6 0 18446744073709551615"), "good");
         assert_eq!(answer("settings 0 12 6 0 0"), "refused 3");
-        assert_eq!(answer("tag 0 12 4096 0 0 61"), "3212 3148");
+        assert_eq!(answer("tag 0 12 4096 0 0 61"), "3377 3148");
         assert_eq!(answer("tag 0 12 4096 0 0 "), "refused 7");
-        assert_eq!(answer("tag 0 12 4096 0 1 61"), "3647 3404");
-        assert_eq!(answer("tag 0 12 4096 0 81985529216486895 61"), "3217 1200");
+        assert_eq!(answer("tag 0 12 4096 0 1 61"), "3812 3404");
+        assert_eq!(answer("tag 0 12 4096 0 81985529216486895 61"), "668 1200");
         assert_eq!(answer("tag 0 12 4096 0 14695981039346656037 00"), "1 0");
         assert_eq!(answer("offset 0 12 1 0 0 65535"), "0");
         assert_eq!(answer("offset 0 12 4096 0 1 3212"), "2629");
