@@ -91,6 +91,9 @@ int main(void)
            memcmp(table, copy, sizeof table) == 0 ? "yes" : "no");
     answer = holdlist_file_read(file, (size_t)size - 1, LENT(copy), &named);
     printf("one byte short: %" PRId64 ", %s\n", answer, holdlist_refusal_text(answer));
+    file[0] &= 0xdf; /* without the mark of its fingerprints, as files were before version 0.5 */
+    answer = holdlist_file_read(file, (size_t)size, LENT(copy), &named);
+    printf("an earlier file: %" PRId64 ", %s\n", answer, holdlist_refusal_text(answer));
 
     /* packed, and read into another table: the same entries */
     size = holdlist_packed_write(&settings, LENT(table), packed, sizeof packed);

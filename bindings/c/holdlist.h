@@ -19,8 +19,11 @@
  * tags do so all year; under another others do, so each season's list can have its own. Let salts differ in their low
  * eight bits, as 1, 2, 3 do: salts that agree there move the hashes of all tags of one length by the same number, and
  * many of the unlucky tags stay unlucky. Lists of different salts are different lists: a tag is found with the salt
- * that it was held with. The hold file has the salt, the packed form has not. Salt 0, the default, gives what version
- * 0.3 gave.
+ * that it was held with. The hold file has the salt, the packed form has not. The default is 0.
+ *
+ * EARLIER LISTS. Since version 0.5 tags have other fingerprints than before, which come up equally often. A hold file
+ * of an earlier version is refused with 23. A table or a packed form of one does not tell what it is: nothing refuses
+ * it, and its tags are found in it by chance alone. So lists are filled anew from the register.
  *
  * BUFFERS. A buffer is a pointer and a count of elements. It holds at least that many elements and is aligned as its
  * element type asks; a null pointer with count 0 is an empty buffer. A buffer that a call writes overlaps none of its
@@ -50,9 +53,9 @@ extern "C" {
 
 /* The version, that of the whole repository (its file VERSION). */
 #define HOLDLIST_VERSION_MAJOR 0
-#define HOLDLIST_VERSION_MINOR 4
+#define HOLDLIST_VERSION_MINOR 5
 #define HOLDLIST_VERSION_PATCH 0
-#define HOLDLIST_VERSION "0.4.0"
+#define HOLDLIST_VERSION "0.5.0"
 
 /* Settings, any numbers of which can be handed in. */
 typedef struct {
@@ -77,27 +80,28 @@ typedef char holdlist_settings_are_six_numbers
 #error "the hold list needs a machine whose numbers have their low byte first"
 #endif
 
-/* What a refusal's number means. There is no 10. */
+/* What a refusal's number means. There is no 10, 21 or 22. */
 enum {
-    HOLDLIST_REFUSED_RULE = 1,            /* the rule is above 2 */
-    HOLDLIST_REFUSED_WIDTH = 2,           /* the width is outside 4 to 16 */
-    HOLDLIST_REFUSED_BUCKETS = 3,         /* 0 or above 65536; no power of two (rules 0, 2); odd (rule 1) */
-    HOLDLIST_REFUSED_MASK = 4,            /* the bucket count or more (rule 2); not 0 (rules 0, 1) */
-    HOLDLIST_REFUSED_TABLE = 5,           /* the table does not have 4 * buckets cells */
-    HOLDLIST_REFUSED_SCRATCH = 6,         /* scratch has fewer than 2 * buckets numbers */
-    HOLDLIST_REFUSED_TAG = 7,             /* the tag has no byte or more than 64 */
-    HOLDLIST_REFUSED_BUCKET = 8,          /* there is no bucket of this number */
-    HOLDLIST_REFUSED_FULL = 9,            /* the list has no room for the tag, however its entries are moved */
-    HOLDLIST_REFUSED_SHORT = 11,          /* the bytes end early */
-    HOLDLIST_REFUSED_MAP = 12,            /* a map bit 5 to 7; a field with its default; a mask against the rule */
-    HOLDLIST_REFUSED_BUCKET_BYTE = 13,    /* a bucket's byte is above 15 */
-    HOLDLIST_REFUSED_FINGERPRINT = 14,    /* a fingerprint is 0, or 2^width or more */
-    HOLDLIST_REFUSED_LEFT_OVER = 15,      /* bytes are left over */
-    HOLDLIST_REFUSED_OUTPUT = 16,         /* the output is too short */
-    HOLDLIST_REFUSED_CELL = 17,           /* a cell is 2^width or more */
-    HOLDLIST_REFUSED_ROW = 18,            /* a row number is 3876 or more */
-    HOLDLIST_REFUSED_ORDER = 19,          /* a bucket is not ascending */
-    HOLDLIST_REFUSED_FILLING = 20         /* a filling bit is set */
+    HOLDLIST_REFUSED_RULE = 1,             /* the rule is above 2 */
+    HOLDLIST_REFUSED_WIDTH = 2,            /* the width is outside 4 to 16 */
+    HOLDLIST_REFUSED_BUCKETS = 3,          /* 0 or above 65536; no power of two (rules 0, 2); odd (rule 1) */
+    HOLDLIST_REFUSED_MASK = 4,             /* the bucket count or more (rule 2); not 0 (rules 0, 1) */
+    HOLDLIST_REFUSED_TABLE = 5,            /* the table does not have 4 * buckets cells */
+    HOLDLIST_REFUSED_SCRATCH = 6,          /* scratch has fewer than 2 * buckets numbers */
+    HOLDLIST_REFUSED_TAG = 7,              /* the tag has no byte or more than 64 */
+    HOLDLIST_REFUSED_BUCKET = 8,           /* there is no bucket of this number */
+    HOLDLIST_REFUSED_FULL = 9,             /* the list has no room for the tag, however its entries are moved */
+    HOLDLIST_REFUSED_SHORT = 11,           /* the bytes end early */
+    HOLDLIST_REFUSED_MAP = 12,             /* a map bit 6 or 7; a field with its default; a mask against the rule */
+    HOLDLIST_REFUSED_BUCKET_BYTE = 13,     /* a bucket's byte is above 15 */
+    HOLDLIST_REFUSED_FINGERPRINT = 14,     /* a fingerprint is 0, or 2^width or more */
+    HOLDLIST_REFUSED_LEFT_OVER = 15,       /* bytes are left over */
+    HOLDLIST_REFUSED_OUTPUT = 16,          /* the output is too short */
+    HOLDLIST_REFUSED_CELL = 17,            /* a cell is 2^width or more */
+    HOLDLIST_REFUSED_ROW = 18,             /* a row number is 3876 or more */
+    HOLDLIST_REFUSED_ORDER = 19,           /* a bucket is not ascending */
+    HOLDLIST_REFUSED_FILLING = 20,         /* a filling bit is set */
+    HOLDLIST_REFUSED_OLD_FINGERPRINTS = 23 /* map bit 5 is 0: a hold file of earlier fingerprints */
 };
 
 /*
@@ -146,6 +150,8 @@ static inline const char *holdlist_refusal_text(int64_t refusal)
         return "the entries of a bucket are not ascending";
     case -HOLDLIST_REFUSED_FILLING:
         return "a filling bit is set";
+    case -HOLDLIST_REFUSED_OLD_FINGERPRINTS:
+        return "the file has fingerprints of an earlier kind: fill the list anew from the register";
     default:
         return "there is no refusal of this number";
     }
@@ -163,7 +169,8 @@ static inline const char *holdlist_refusal_text(int64_t refusal)
 int64_t holdlist_settings_check(const holdlist_settings *settings);
 
 /*
- * The fingerprint of a tag, 1 to 2^width - 1. Writes nothing. Refuses with 1 to 4, 7.
+ * The fingerprint of a tag, 1 to 2^width - 1: one more than the remainder of the low 32 bits of its hash by
+ * 2^width - 1. Writes nothing. Refuses with 1 to 4, 7.
  */
 int64_t holdlist_fingerprint(const holdlist_settings *settings, const uint8_t *tag, size_t tag_count);
 
@@ -212,7 +219,8 @@ int64_t holdlist_release(const holdlist_settings *settings, uint16_t *table, siz
  * Holds a tag. Answers how many other entries moved to make room, 0 for none; a tag that is held twice has two
  * entries. Writes the table, and scratch as it needs. Refuses with 1 to 4, 5, 6, 7, 9; at 9 the table is as before.
  * Tags that spread well fill nine tenths of a large list and more before the first 9. Short tags that differ in
- * their last bytes alone, such as "tag 1" and "tag 2", may not: the hash spreads a byte by the bytes after it.
+ * their last bytes alone, such as "tag 1" and "tag 2", may not: the hash spreads a byte by the bytes after it. Below
+ * width 14 many of these share a fingerprint too, so that more of them read held by chance.
  */
 int64_t holdlist_hold(const holdlist_settings *settings, uint16_t *table, size_t table_count, uint32_t *scratch,
                       size_t scratch_count, const uint8_t *tag, size_t tag_count);
@@ -235,7 +243,7 @@ int64_t holdlist_file_write(const holdlist_settings *settings, const uint16_t *t
  * The settings that a hold file names, so that a table of their size can be lent to holdlist_file_read. Answers 0, with
  * the settings in settings: they pass. It looks at the header alone, at most 15 bytes, so that the file may be bad
  * behind it. Whatever it refuses holdlist_file_read refuses with the same number.
- * Refuses with 11, 12, then 1 to 4 for the file's settings.
+ * Refuses with 11, 12, 23, then 1 to 4 for the file's settings.
  */
 int64_t holdlist_file_settings(const uint8_t *bytes, size_t bytes_count, holdlist_settings *settings);
 
@@ -243,7 +251,7 @@ int64_t holdlist_file_settings(const uint8_t *bytes, size_t bytes_count, holdlis
  * Reads a hold file. Answers 0, with the cells in the table and the file's settings in settings. The table must have
  * the size that the file asks for: 4 * buckets, of the buckets that holdlist_file_settings tells. Bytes are checked as
  * they come, and nothing is written before all have passed.
- * Refuses with 11, 12, then 1 to 4 for the file's settings, 5, 11, 13, 14, 15.
+ * Refuses with 11, 12, 23, then 1 to 4 for the file's settings, 5, 11, 13, 14, 15.
  */
 int64_t holdlist_file_read(const uint8_t *bytes, size_t bytes_count, uint16_t *table, size_t table_count,
                            holdlist_settings *settings);
@@ -251,7 +259,7 @@ int64_t holdlist_file_read(const uint8_t *bytes, size_t bytes_count, uint16_t *t
 /*
  * Writes the list in its packed form, which leaves out the settings, the salt among them, and the order within a
  * bucket. Answers how many bytes of out it wrote, HOLDLIST_PACKED_BYTES(width, buckets); later bytes of out keep their
- * values. Refuses with 1 to 4, 5, 17, 16.
+ * values. The form does not tell of which version its fingerprints are. Refuses with 1 to 4, 5, 17, 16.
  */
 int64_t holdlist_packed_write(const holdlist_settings *settings, const uint16_t *table, size_t table_count,
                               uint8_t *out, size_t out_count);

@@ -95,7 +95,8 @@ impl HoldList {
     ///
     /// Tags that spread well fill nine tenths of a large list and more before one is refused.
     /// Short tags that differ in their last bytes alone, such as "tag 1" and "tag 2", may not: the
-    /// hash spreads a byte by the bytes after it.
+    /// hash spreads a byte by the bytes after it. Below width 14 many of these share a fingerprint
+    /// too, so that more of them read held by chance.
     ///
     /// ```
     /// use holdlist::{HoldList, Refusal, Settings};
@@ -216,13 +217,14 @@ impl HoldList {
     /// use holdlist::{HoldList, Settings};
     ///
     /// // the default settings, and a byte for each empty bucket
-    /// assert_eq!(HoldList::default().save(), vec![0; 1 + 4096]);
+    /// let file = HoldList::default().save();
+    /// assert_eq!(file, [&[0x20][..], &[0; 4096]].concat());
     /// // width and bucket count are not the default
     /// let small = Settings::plain(4, 1);
-    /// assert_eq!(HoldList::new(small)?.save(), [6, 4, 0, 0, 0]);
+    /// assert_eq!(HoldList::new(small)?.save(), [0x26, 4, 0, 0, 0]);
     /// // nor is the salt, which takes eight bytes
     /// let salted = HoldList::new(small.with_salt(2027))?;
-    /// assert_eq!(salted.save(), [0x16, 4, 0, 0, 0xeb, 0x07, 0, 0, 0, 0, 0, 0, 0]);
+    /// assert_eq!(salted.save(), [0x36, 4, 0, 0, 0xeb, 0x07, 0, 0, 0, 0, 0, 0, 0]);
     /// # Ok::<(), holdlist::Refusal>(())
     /// ```
     pub fn save(&self) -> Vec<u8> {
@@ -238,17 +240,21 @@ impl HoldList {
     /// ```
     /// use holdlist::{HoldList, Refusal, Settings};
     ///
-    /// let list = HoldList::load(&[0x06, 4, 0, 0, 0x0a, 9, 0, 3, 0])?;
+    /// let list = HoldList::load(&[0x26, 4, 0, 0, 0x0a, 9, 0, 3, 0])?;
     /// assert_eq!(list.settings(), Settings::plain(4, 1));
     /// assert_eq!(list.cells(), [0, 9, 0, 3]);
     /// assert_eq!(list.len(), 2);
-    /// assert_eq!(HoldList::load(&[0x06, 4, 0, 0, 0x0a, 9, 0, 3]), Err(Refusal::Short));
+    /// assert_eq!(HoldList::load(&[0x26, 4, 0, 0, 0x0a, 9, 0, 3]), Err(Refusal::Short));
+    /// // a file of an earlier version, whose tags had other fingerprints
+    /// let earlier = [0x06, 4, 0, 0, 0x0a, 9, 0, 3, 0];
+    /// assert_eq!(HoldList::load(&earlier), Err(Refusal::OldFingerprints));
     /// # Ok::<(), Refusal>(())
     /// ```
     ///
     /// # Errors
-    /// [`Refusal::Short`], [`Refusal::Map`], those of [`Settings::check`] for the file's settings,
-    /// [`Refusal::BucketByte`], [`Refusal::Fingerprint`], [`Refusal::LeftOver`].
+    /// [`Refusal::Short`], [`Refusal::Map`], [`Refusal::OldFingerprints`], those of
+    /// [`Settings::check`] for the file's settings, [`Refusal::BucketByte`],
+    /// [`Refusal::Fingerprint`], [`Refusal::LeftOver`].
     pub fn load(bytes: &[u8]) -> Result<HoldList, Refusal> {
         let mut table = vec![0; Settings::of_file(bytes)?.cells()];
         let settings = raw::file_read(bytes, &mut table)?;
@@ -257,12 +263,13 @@ impl HoldList {
     }
 
     /// The list in its packed form, which leaves out the settings, the salt among them, and the order
-    /// within a bucket.
+    /// within a bucket. Nor does it tell of which version its fingerprints are: one that was made
+    /// before version 0.5 is of the earlier ones, and nothing refuses it.
     ///
     /// ```
     /// use holdlist::HoldList;
     ///
-    /// let list = HoldList::load(&[0x06, 4, 0, 0, 0x0a, 9, 0, 3, 0])?;
+    /// let list = HoldList::load(&[0x26, 4, 0, 0, 0x0a, 9, 0, 3, 0])?;
     /// assert_eq!(list.pack(), [0x33, 0x00]);
     /// # Ok::<(), holdlist::Refusal>(())
     /// ```

@@ -284,7 +284,10 @@ mod tests {
         assert_eq!(file_write(&S, &table, &mut out), Err(Refusal::Table));
         assert_eq!(packed_write(&S, &table, &mut out), Err(Refusal::Table));
         assert_eq!(packed_read(&S, &[0x33, 0], &mut table), Err(Refusal::Table));
-        assert_eq!(file_read(&[6, 4, 0, 0, 0], &mut table), Err(Refusal::Table));
+        assert_eq!(
+            file_read(&[0x26, 4, 0, 0, 0], &mut table),
+            Err(Refusal::Table)
+        );
         assert_eq!((table, scratch, out), ([7; 5], [3; 2], [9; 20]));
     }
 
@@ -346,7 +349,7 @@ mod tests {
         let table = [0, 9, 0, 3];
         let mut out = [0xee; 12];
         assert_eq!(file_write(&S, &table, &mut out), Ok(9));
-        assert_eq!(out, [6, 4, 0, 0, 0x0a, 9, 0, 3, 0, 0xee, 0xee, 0xee]);
+        assert_eq!(out, [0x26, 4, 0, 0, 0x0a, 9, 0, 3, 0, 0xee, 0xee, 0xee]);
         let mut out = [0xee; 4];
         assert_eq!(packed_write(&S, &table, &mut out), Ok(2));
         assert_eq!(out, [0x33, 0, 0xee, 0xee]);
@@ -370,18 +373,20 @@ mod tests {
             mask: 8,
             salt: 8,
         };
-        // the bytes end early; the map; a salt that is cut or 0; each of the settings
-        let bad: [&[u8]; 8] = [
-            &[6, 4, 0],
-            &[0x20],
-            &[0x10, 1, 0, 0, 0, 0, 0, 0],
-            &[0x10, 0, 0, 0, 0, 0, 0, 0, 0],
-            &[7, 3, 4, 0, 0],
-            &[6, 3, 0, 0],
-            &[6, 4, 2, 0],
-            &[15, 2, 4, 0, 0, 1, 0],
+        // the bytes end early; the map; earlier fingerprints; a salt that is cut or 0; each of the
+        // settings
+        let bad: [&[u8]; 9] = [
+            &[0x26, 4, 0],
+            &[0x40],
+            &[0x06, 4, 0, 0, 0],
+            &[0x30, 1, 0, 0, 0, 0, 0, 0],
+            &[0x30, 0, 0, 0, 0, 0, 0, 0, 0],
+            &[0x27, 3, 4, 0, 0],
+            &[0x26, 3, 0, 0],
+            &[0x26, 4, 2, 0],
+            &[0x2f, 2, 4, 0, 0, 1, 0],
         ];
-        for (bytes, number) in bad.into_iter().zip([11, 12, 11, 12, 1, 2, 3, 4]) {
+        for (bytes, number) in bad.into_iter().zip([11, 12, 23, 11, 12, 1, 2, 3, 4]) {
             let mut settings = before;
             let mut table = [1u16; 4];
             // SAFETY: as the module says
@@ -408,7 +413,7 @@ mod tests {
 
     #[test]
     fn the_salt_is_where_the_library_looks_for_it() {
-        let bytes = [0x16, 4, 0, 0, 1, 2, 3, 4, 5, 6, 7, 8, 0x0a, 9, 0, 3, 0];
+        let bytes = [0x36, 4, 0, 0, 1, 2, 3, 4, 5, 6, 7, 8, 0x0a, 9, 0, 3, 0];
         let salt = 0x0807_0605_0403_0201;
         let mut table = [7; 4];
         assert_eq!(file_settings(&bytes), Ok(S.with_salt(salt)));
@@ -416,12 +421,13 @@ mod tests {
         let mut out = [0xee; 18];
         assert_eq!(file_write(&S.with_salt(salt), &table, &mut out), Ok(17));
         assert_eq!((&out[..17], out[17]), (&bytes[..], 0xee));
-        // "a" under the salts 1 and 2^32, each of which is one of the two words
+        // "a" under the salts 1 and 2^32, each of which is one of the two words; the low half of its hash
+        // is 8601ec8c or 8601ee3f, and has the remainder by 4,095 of its digits to the base 4,096
         let default = Settings::default();
         for (salt, entry) in [
-            (0, (0xc8c, 0xc4c)),
-            (1, (0xe3f, 0xd4c)),
-            (1 << 32, (0xc8c, 0xdff)),
+            (0, (1 + 0x86 + 0x01e + 0xc8c, 0xc4c)),
+            (1, (1 + 0x86 + 0x01e + 0xe3f, 0xd4c)),
+            (1 << 32, (1 + 0x86 + 0x01e + 0xc8c, 0xdff)),
         ] {
             let s = default.with_salt(salt);
             let found = (fingerprint(&s, b"a"), home(&s, b"a"));

@@ -51,11 +51,14 @@ pub enum Refusal {
     Order = 19,
     /// 20: a filling bit is set.
     Filling = 20,
+    /// 23: the hold file has fingerprints of an earlier kind. The list is to be filled anew from the
+    /// register.
+    OldFingerprints = 23,
 }
 
 impl Refusal {
     /// Every refusal, by its number.
-    pub const ALL: [Refusal; 19] = [
+    pub const ALL: [Refusal; 20] = [
         Refusal::Rule,
         Refusal::Width,
         Refusal::Buckets,
@@ -75,9 +78,10 @@ impl Refusal {
         Refusal::Row,
         Refusal::Order,
         Refusal::Filling,
+        Refusal::OldFingerprints,
     ];
 
-    /// The number, 1 to 9 or 11 to 20.
+    /// The number, 1 to 9, 11 to 20 or 23.
     pub const fn number(self) -> u8 {
         self as u8
     }
@@ -120,6 +124,9 @@ impl Refusal {
             Refusal::Row => "a row number is 3876 or more",
             Refusal::Order => "the entries of a bucket are not ascending",
             Refusal::Filling => "a filling bit is set",
+            Refusal::OldFingerprints => {
+                "the file has fingerprints of an earlier kind: fill the list anew from the register"
+            }
         }
     }
 }

@@ -110,12 +110,15 @@ impl Settings {
     /// ```
     /// use holdlist::{Refusal, Settings};
     ///
-    /// assert_eq!(Settings::of_file(&[0x06, 4, 0, 0]), Ok(Settings::plain(4, 1)));
-    /// assert_eq!(Settings::of_file(&[0x06, 4, 0]), Err(Refusal::Short));
+    /// assert_eq!(Settings::of_file(&[0x26, 4, 0, 0]), Ok(Settings::plain(4, 1)));
+    /// assert_eq!(Settings::of_file(&[0x26, 4, 0]), Err(Refusal::Short));
+    /// // without bit 5 of the first byte it is a file of an earlier version
+    /// assert_eq!(Settings::of_file(&[0x06, 4, 0, 0]), Err(Refusal::OldFingerprints));
     /// ```
     ///
     /// # Errors
-    /// [`Refusal::Short`], [`Refusal::Map`], then as [`Settings::check`].
+    /// [`Refusal::Short`], [`Refusal::Map`], [`Refusal::OldFingerprints`], then as
+    /// [`Settings::check`].
     ///
     /// [`HoldList::load`]: crate::HoldList::load
     pub fn of_file(bytes: &[u8]) -> Result<Settings, Refusal> {
@@ -131,7 +134,8 @@ impl Settings {
         raw::settings_check(&self)
     }
 
-    /// The fingerprint of a tag, 1 to 2^width − 1.
+    /// The fingerprint of a tag, 1 to 2^width − 1: one more than the remainder of the low 32 bits of
+    /// its hash by 2^width − 1.
     ///
     /// # Errors
     /// As [`Settings::check`], then [`Refusal::Tag`].

@@ -42,7 +42,8 @@ const SALTS: [u64; 5] = [1, 2_027, 1 << 32, 1 << 63, u64::MAX];
 #[test]
 fn every_refusal_has_its_number_and_says_what_it_means() {
     let numbers: Vec<u8> = Refusal::ALL.iter().map(|r| r.number()).collect();
-    assert_eq!(numbers, (1..=9).chain(11..=20).collect::<Vec<u8>>());
+    let all: Vec<u8> = (1..=9).chain(11..=20).chain([23]).collect();
+    assert_eq!(numbers, all);
     for refusal in Refusal::ALL {
         assert_eq!(Refusal::from_number(refusal.number()), Some(refusal));
         let says = refusal.to_string();
@@ -52,7 +53,7 @@ fn every_refusal_has_its_number_and_says_what_it_means() {
         );
         assert!(refusal.meaning().len() > 10);
     }
-    for number in [0, 10, 21, 255] {
+    for number in [0, 10, 21, 22, 24, 255] {
         assert_eq!(Refusal::from_number(number), None);
     }
     let error: Box<dyn std::error::Error> = Box::new(Refusal::Tag);
@@ -192,45 +193,52 @@ fn a_full_list_is_refused_with_9_and_stays() {
 #[test]
 fn a_damaged_hold_file_is_refused_with_its_number() {
     use Refusal::*;
-    let cases: [(&[u8], Refusal); 29] = [
+    let cases: [(&[u8], Refusal); 35] = [
         (&[], Short),
-        (&[0x20], Map), // a map bit above 4
+        (&[0x40], Map), // a map bit above 5
         (&[0x46, 4, 0, 0, 0], Map),
+        (&[0x66, 4, 0, 0, 0], Map),
         (&[0xf6, 4, 0, 0, 0], Map),
-        (&[0x10], Short),                                   // the salt
-        (&[0x16, 4, 0, 0, 1, 0, 0, 0, 0, 0, 0], Short),     // its last byte
-        (&[0x16, 12, 0, 0, 0, 0, 0, 0, 0, 0, 0], Short),    // before what is wrong ahead of it
-        (&[0x16, 4, 0, 0, 0, 0, 0, 0, 0, 0, 0, 0, 0], Map), // salt 0 is the default
-        (&[0x07], Short),                                   // the rule
-        (&[0x06, 4], Short),                                // the bucket count
-        (&[0x06, 4, 0], Short),                             // its second byte
-        (&[0x0f, 2, 4, 0, 0, 0], Short),                    // the mask's second byte
-        (&[0x05, 0, 0, 0, 0], Map),                         // rule 0 is the default
-        (&[0x06, 12, 0, 0, 0], Map),                        // so is width 12
-        (&[0x06, 4, 0xff, 0x0f, 0], Map),                   // and 4096 buckets
-        (&[0x0e, 4, 0, 0, 0, 0, 0], Map),                   // a mask under rule 0
-        (&[0x07, 2, 4, 0, 0, 0], Map),                      // none under rule 2
-        (&[0x07, 3, 4, 0, 0, 0], Rule),
-        (&[0x06, 3, 0, 0, 0], Width),
-        (&[0x06, 4, 2, 0, 0, 0, 0], Buckets), // three
-        (&[0x07, 1, 4, 2, 0, 0, 0, 0], Buckets),
-        (&[0x0f, 2, 4, 0, 0, 1, 0, 0], Mask),
-        (&[0x06, 4, 0, 0], Short),          // the bucket's byte
-        (&[0x06, 4, 0, 0, 0x01, 9], Short), // half a fingerprint
-        (&[0x06, 4, 1, 0, 0x00], Short),    // the second bucket
-        (&[0x06, 4, 0, 0, 0x10], BucketByte),
-        (&[0x06, 4, 0, 0, 0x01, 0, 0], Fingerprint),
-        (&[0x06, 4, 0, 0, 0x01, 16, 0], Fingerprint),
-        (&[0x06, 4, 0, 0, 0x00, 0], LeftOver),
+        // no map bit 5, and nothing else that is wrong; or a field that is cut, a default, the rule
+        (&[0x00], OldFingerprints),
+        (&[0x06, 4, 0, 0, 0], OldFingerprints),
+        (&[0x06, 4], OldFingerprints),
+        (&[0x06, 12, 0, 0, 0], OldFingerprints),
+        (&[0x07, 3, 4, 0, 0, 0], OldFingerprints),
+        (&[0x30], Short),                                   // the salt
+        (&[0x36, 4, 0, 0, 1, 0, 0, 0, 0, 0, 0], Short),     // its last byte
+        (&[0x36, 12, 0, 0, 0, 0, 0, 0, 0, 0, 0], Short),    // before what is wrong ahead of it
+        (&[0x36, 4, 0, 0, 0, 0, 0, 0, 0, 0, 0, 0, 0], Map), // salt 0 is the default
+        (&[0x27], Short),                                   // the rule
+        (&[0x26, 4], Short),                                // the bucket count
+        (&[0x26, 4, 0], Short),                             // its second byte
+        (&[0x2f, 2, 4, 0, 0, 0], Short),                    // the mask's second byte
+        (&[0x25, 0, 0, 0, 0], Map),                         // rule 0 is the default
+        (&[0x26, 12, 0, 0, 0], Map),                        // so is width 12
+        (&[0x26, 4, 0xff, 0x0f, 0], Map),                   // and 4096 buckets
+        (&[0x2e, 4, 0, 0, 0, 0, 0], Map),                   // a mask under rule 0
+        (&[0x27, 2, 4, 0, 0, 0], Map),                      // none under rule 2
+        (&[0x27, 3, 4, 0, 0, 0], Rule),
+        (&[0x26, 3, 0, 0, 0], Width),
+        (&[0x26, 4, 2, 0, 0, 0, 0], Buckets), // three
+        (&[0x27, 1, 4, 2, 0, 0, 0, 0], Buckets),
+        (&[0x2f, 2, 4, 0, 0, 1, 0, 0], Mask),
+        (&[0x26, 4, 0, 0], Short),          // the bucket's byte
+        (&[0x26, 4, 0, 0, 0x01, 9], Short), // half a fingerprint
+        (&[0x26, 4, 1, 0, 0x00], Short),    // the second bucket
+        (&[0x26, 4, 0, 0, 0x10], BucketByte),
+        (&[0x26, 4, 0, 0, 0x01, 0, 0], Fingerprint),
+        (&[0x26, 4, 0, 0, 0x01, 16, 0], Fingerprint),
+        (&[0x26, 4, 0, 0, 0x00, 0], LeftOver),
     ];
     for (bytes, refusal) in cases {
         assert_eq!(HoldList::load(bytes), Err(refusal), "{bytes:02x?}");
     }
-    // the first twenty-two by the header, which the others pass
+    // the first twenty-eight by the header, which the others pass
     for (i, (bytes, refusal)) in cases.into_iter().enumerate() {
         match Settings::of_file(bytes) {
-            Ok(s) => assert!(i >= 22 && s.check() == Ok(()), "{bytes:02x?}"),
-            Err(r) => assert!(i < 22 && r == refusal, "{bytes:02x?}"),
+            Ok(s) => assert!(i >= 28 && s.check() == Ok(()), "{bytes:02x?}"),
+            Err(r) => assert!(i < 28 && r == refusal, "{bytes:02x?}"),
         }
     }
 }
@@ -417,9 +425,12 @@ fn salt_0_is_no_salt() {
     }
     // "a" hashes to af63dc4c8601ec8c, and from the start with its lowest bit turned over to af63dd4c8601ee3f
     let s = Settings::default();
-    assert_eq!((s.fingerprint("a"), s.home("a")), (Ok(0xc8c), Ok(0xc4c)));
+    // and by 4,095 a low half has the remainder of its digits to the base 4,096
+    let print = 1 + 0x86 + 0x01e + 0xc8c;
+    assert_eq!((s.fingerprint("a"), s.home("a")), (Ok(print), Ok(0xc4c)));
     let s = s.with_salt(1);
-    assert_eq!((s.fingerprint("a"), s.home("a")), (Ok(0xe3f), Ok(0xd4c)));
+    let print = 1 + 0x86 + 0x01e + 0xe3f;
+    assert_eq!((s.fingerprint("a"), s.home("a")), (Ok(print), Ok(0xd4c)));
 }
 
 #[test]
@@ -474,7 +485,7 @@ fn lists_of_different_salts_are_different_lists() {
 #[test]
 fn the_salt_travels_in_the_hold_file_and_not_in_the_packed_form() {
     let bytes = [
-        0x16, 4, 0, 0, 0xef, 0xcd, 0xab, 0x89, 0x67, 0x45, 0x23, 0x01, 0x0a, 9, 0, 3, 0,
+        0x36, 4, 0, 0, 0xef, 0xcd, 0xab, 0x89, 0x67, 0x45, 0x23, 0x01, 0x0a, 9, 0, 3, 0,
     ];
     let s = Settings::plain(4, 1).with_salt(0x0123_4567_89ab_cdef);
     assert_eq!(Settings::of_file(&bytes), Ok(s));
@@ -482,7 +493,7 @@ fn the_salt_travels_in_the_hold_file_and_not_in_the_packed_form() {
     assert_eq!((list.settings(), list.cells()), (s, &[0u16, 9, 0, 3][..]));
     assert_eq!(list.save(), bytes);
     // eight bytes and a bit of the map, beside a list without
-    let plain = HoldList::load(&[0x06, 4, 0, 0, 0x0a, 9, 0, 3, 0]).unwrap();
+    let plain = HoldList::load(&[0x26, 4, 0, 0, 0x0a, 9, 0, 3, 0]).unwrap();
     assert_eq!(plain.save().len() + 8, bytes.len());
     assert_eq!(list.pack(), plain.pack());
 }

@@ -544,7 +544,7 @@ fn main() {
         return;
     }
     if o.version {
-        io::write_all(STDOUT_FILENO, b"gedrunelj 0.4.0\n");
+        io::write_all(STDOUT_FILENO, b"gedrunelj 0.5.0\n");
         report(o.report, 0);
         return;
     }

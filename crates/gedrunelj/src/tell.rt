@@ -89,6 +89,10 @@ fn file_meaning(log: &mut Log, n: u32) {
         18 => print(log, b"a row number in the file is 3876 or more\n"),
         19 => print(log, b"a bucket in the file is not in ascending order\n"),
         20 => print(log, b"a bit behind the last bucket in the file is set\n"),
+        23 => print(
+            log,
+            b"the file has fingerprints of an earlier kind; fill the list anew from the register\n",
+        ),
         _ => print(log, b"\n"),
     }
 }
