@@ -2,7 +2,7 @@
 -- Assumes nothing.
 use mathlib.Core.Path.{_≡_, refl, ap, _∙_}
 use mathlib.Core.Bool.{Bool, true, false, cond, not, _||_}
-use mathlib.Core.Option.{Option, none, some}
+use mathlib.Core.Option.{Option, some}
 use mathlib.Core.List.{List, [], _∷_, _++_}
 use Prim.Native.Nat.{ℕ, zero, suc, _+_, _*_, _/_, _^_, _≤_, _<_}
 use native.Mathlib.Decide.{decLe}
@@ -13,7 +13,7 @@ use lib.ListN.{length, take, drop, length-drop}
 use Rattle.lemmas.specs.Bytes.{numberFrom}
 use Rattle.refusals.specs.Checks.{firstMet}
 use Rattle.refusals.specs.Outcomes.{refused, Done}
-use Rattle.refusals.proofs.Cursor.{start, met, passed, none-left}
+use Rattle.refusals.proofs.Cursor.{start, met, passed}
 use Rattle.index.specs.declared.Settings.{Settings}
 use Rattle.calls.specs.Calls.{tableChecks, Sound}
 use Rattle.calls.proofs.Laws.{table-check-laws}
@@ -24,6 +24,7 @@ use Rattle.file_form.specs.Header.{sizes, settingsFrom, defaults, mapChe
 use Rattle.file_form.specs.Reader.{fitting, readFields, afterMap, readHeader, readCell, readCells, readBucket, readBuckets, afterBuckets, afterHeader, readAll, readFile}
 use Rattle.file_form.specs.AnswerOrder.{fieldsLength, AnswerOrder}
 use Rattle.file_form.proofs.Parses.{onward, split, same-next}
+use Rattle.file_form.proofs.Maps.{map-passes}
 
 -- a part that stopped stops the rest
 stopped : {A B : Type 0} (p : Parsed A) (f : A → List ℕ → Parsed B) (n : ℕ) → p ≡ stop n → andThen p f ≡ stop n
@@ -56,13 +57,9 @@ module _ (map : ℕ) (rest : List ℕ) where
     unfolding mapChecks
     uneven b = by-map 23 (met (passed (start (mapChecks map)) (lt-leb 64 map h)) (ap not b))
 
-    passes : bit 5 map ≡ true → firstMet (mapChecks map) ≡ none
-    unfolding mapChecks
-    passes b = none-left (passed (passed (start (mapChecks map)) (lt-leb 64 map h)) (ap not b))
-
     lower : bit 5 map ≡ true → (n : ℕ) → readFields map rest ≡ stop n → readHeader (map ∷ rest) ≡ stop n
     unfolding readHeader afterMap
-    lower b n e = ap (λ (o : Option ℕ). checked o (readFields map rest)) (passes b) ∙ e
+    lower b n e = ap (λ (o : Option ℕ). checked o (readFields map rest)) (map-passes map h b) ∙ e
 
 -- a number of which not every byte is there, and one that is whole
 cut-number : (n : ℕ) (l : List ℕ) → length l < n → takeNumber n l ≡ stop 11

@@ -33,6 +33,19 @@ pub bit-at : (front : List Bool) (b : Bool) (bs : List Bool) → bit (length fro
 bit-at [] b bs = bit-from b bs
 bit-at (a ∷ front) b bs = ap (bit (length front)) (half-from a (front ++ (b ∷ bs))) ∙ bit-at front b bs
 
+-- an even number, k bits further up: added to a map it leaves bit k as it was
+abbrev pub raised : ℕ → ℕ → ℕ
+raised zero x = 2 * x
+raised (suc k) x = 2 * raised k x
+
+pub bit-under : (k x m : ℕ) → bit k (m + raised k x) ≡ bit k m
+bit-under zero x m =
+    let e : (m + 2 * x) % 2 ≡ m % 2 = omega arith in
+    ap (λ (y : ℕ). eqb y 1) e
+bit-under (suc k) x m =
+    let e : (m + 2 * raised k x) / 2 ≡ m / 2 + raised k x = omega arith in
+    ap (bit k) e ∙ bit-under k x (m / 2)
+
 pub from-low : (bs : List Bool) → fromBits bs < 2 ^ length bs
 from-low [] = omega arith
 from-low (b ∷ bs) = omega (arith, one-le b, from-low bs, pow-suc 2 (length bs))

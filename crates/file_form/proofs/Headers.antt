@@ -4,14 +4,13 @@ use mathlib.Core.Path.{_≡_, refl, sym, ap, ap₂, _∙_, subst}
 use mathlib.Core.Bool.{Bool, true, false, not, _&&_, Bool·not-not}
 use mathlib.Core.Option.{Option, none}
 use mathlib.Core.List.{List, [], _∷_, _++_}
-use Prim.Native.Nat.{ℕ, _+_, _-_, _^_, _<_}
+use Prim.Native.Nat.{ℕ, _+_, _-_}
 use native.Mathlib.Omega.{arith}
-use borrow.Author.Tests.{eq-eqb, eqb-true, eqb-false, leb-false, lt-leb, not-false}
-use lib.Dec.{eqb, leb}
+use borrow.Author.Tests.{eq-eqb, eqb-true, eqb-false, not-false}
+use lib.Dec.{eqb}
 use lib.ListN.{length, take, getD}
 use Rattle.lemmas.specs.Bytes.{AllBytes}
-use Rattle.refusals.specs.Checks.{check, firstMet}
-use Rattle.refusals.proofs.Cursor.{start, passed, none-left, not-met}
+use Rattle.refusals.specs.Checks.{firstMet}
 use Rattle.index.specs.Settings.{defaultSettings, Representable, settingsRefusal}
 use Rattle.index.specs.declared.Settings.{Settings}
 use Rattle.index.specs.Laws.{Laws}
@@ -21,6 +20,7 @@ use Rattle.file_form.specs.Fields.{bit, spelled, Fit, fieldBytes, takeFi
 use Rattle.file_form.specs.Header.{sizes, valuesOf, settingsFrom, defaults, standing, mapOf, mapChecks, misfits, misfit}
 use Rattle.file_form.specs.Writer.{header}
 use Rattle.file_form.specs.Reader.{takeByte, fitting, readFields, afterMap, readHeader}
+use Rattle.file_form.proofs.Maps.{map-told, map-passes}
 use Rattle.file_form.proofs.Parses.{onward, split, same-next, not-refused, not-checked, Back, back-then, byte-back}
 use Rattle.file_form.proofs.Fields.{bit-at, from-low, Defaulted, Absent, absent-defaulted, fit-length, spelled-same, fields-read, fields-back, differ, Differing, differing-map}
 
@@ -65,7 +65,7 @@ needless : (t : Bool) (x d : ℕ) → (t ≡ false → x ≡ d) → (t && eqb x 
 needless true x d e = sym (Bool·not-not (eqb x d))
 needless false x d e = sym (ap not (eq-eqb x d (e refl)))
 
--- bit 5, which stands, does not
+-- bit by bit whether the map differs from the writer's; bit 5, which stands, does not
 differing : (m : ℕ) (vs : List ℕ) → bit 5 m ≡ true → Defaulted m defaults (spelled (length sizes) (λ i. getD vs i 0))
     → Differing m (standing (settingsFrom vs)) (misfits m (settingsFrom vs) ++ (false ∷ []))
 differing m vs b d = (
@@ -77,28 +77,12 @@ differing m vs b d = (
 )
 
 -- ── the map ──
-module _ (m : ℕ) (e : firstMet (mapChecks m) ≡ none) where
-  unmet : firstMet (check 23 (not (bit 5 m)) ∷ []) ≡ none
-  unfolding mapChecks
-  unmet = not-met (check 12 (leb 64 m)) (check 23 (not (bit 5 m)) ∷ []) e .1
-
-  map-low : m < 2 ^ length (standing defaultSettings)
-  unfolding mapChecks
-  map-low = leb-false 64 m (not-met (check 12 (leb 64 m)) (check 23 (not (bit 5 m)) ∷ []) e .0)
-
-  map-even : bit 5 m ≡ true
-  map-even = not-false (bit 5 m) (not-met (check 23 (not (bit 5 m))) [] unmet .0)
-
-map-passes : (m : ℕ) → m < 2 ^ length (standing defaultSettings) → bit 5 m ≡ true → firstMet (mapChecks m) ≡ none
-unfolding mapChecks
-map-passes m h b = none-left (passed (passed (start (mapChecks m)) (lt-leb 64 m h)) (ap not b))
-
 -- the other causes of 12 are one: the map is not the one that the writer makes of the settings that were read
 misfit-map : (m : ℕ) (vs : List ℕ) → firstMet (mapChecks m) ≡ none → Fit sizes vs → Defaulted m defaults vs → misfit m (settingsFrom vs) ≡ not (eqb m (mapOf (settingsFrom vs)))
 unfolding misfit
 misfit-map m vs e h d =
-    differing-map m (standing (settingsFrom vs)) (misfits m (settingsFrom vs) ++ (false ∷ [])) (map-low m e)
-    (differing m vs (map-even m e) (subst (Defaulted m defaults) (sym (spelled-same (length sizes) vs (fit-length sizes vs h))) d))
+    differing-map m (standing (settingsFrom vs)) (misfits m (settingsFrom vs) ++ (false ∷ [])) (map-told m e .0)
+    (differing m vs (map-told m e .1) (subst (Defaulted m defaults) (sym (spelled-same (length sizes) vs (fit-length sizes vs h))) d))
 
 -- so that the fields are settled by the map that they make
 pub fitting-map : (m : ℕ) (vs rest : List ℕ) → firstMet (mapChecks m) ≡ none → Fit sizes vs → Defaulted m defaults vs

@@ -1,6 +1,7 @@
 -- What is proved of the definitions.
 pub mod Marks
 pub mod Parses
+pub mod Maps
 pub mod AnswerOrder
 pub mod RefusedWrite
 pub mod Fields

@@ -19,7 +19,7 @@ use Rattle.file_form.specs.Writer.{header, body, fileOf, writeFile}
 use Rattle.file_form.specs.Reader.{fitting, readFields, afterMap, readHeader, afterHeader, readAll, readFile, named, headerAnswer}
 use Rattle.file_form.specs.Unsalted.{sizes4, valuesOf4, defaults4, standing4, mapOf4, mapChecks4, misfit4, header4, fileOf4, saltBit, marked, UnsaltedFiles}
 use Rattle.file_form.specs.Unsalted.{fitting4, readFields4, afterMap4, readHeader4, readFile4, headerAnswer4}
-use Rattle.file_form.proofs.Fields.{from-low}
+use Rattle.file_form.proofs.Fields.{bit-under, from-low}
 
 -- ── fields of any sizes, and one more behind them that is absent ──
 module _ {B : Type 0} (n d : ℕ) where
@@ -53,23 +53,6 @@ module _ {B : Type 0} (n d : ℕ) where
       last-absent ns ds (m / 2) r (λ vs end. g (v ∷ vs) end) (λ vs end. h (v ∷ vs) end) (omega arith) b (λ vs rest k. same (v ∷ vs) rest (ap suc k)))
       ∙ sym (first-field n₀ m d₀ ns ds l h)
 
--- ── the mark is above the bits of the fields ──
-module _ (m : ℕ) where
-  mark0 : (m + 32) % 2 ≡ m % 2
-  mark0 = omega arith
-
-  mark1 : (m + 32) / 2 % 2 ≡ m / 2 % 2
-  mark1 = omega arith
-
-  mark2 : (m + 32) / 2 / 2 % 2 ≡ m / 2 / 2 % 2
-  mark2 = omega arith
-
-  mark3 : (m + 32) / 2 / 2 / 2 % 2 ≡ m / 2 / 2 / 2 % 2
-  mark3 = omega arith
-
-  mark4 : bit 4 m ≡ false → bit 4 (m + 32) ≡ false
-  mark4 b = ne-eqb ((m + 32) / 2 / 2 / 2 / 2 % 2) 1 (λ z. eqb-false (m / 2 / 2 / 2 / 2 % 2) 1 b (omega arith))
-
 -- ── read ──
 module _ (m : ℕ) (b : bit 4 m ≡ false) where
   fitting-same : (vs rest : List ℕ) → length vs ≡ 4 → fitting (m + 32) (vs ++ (0 ∷ [])) rest ≡ fitting4 m vs rest
@@ -78,16 +61,16 @@ module _ (m : ℕ) (b : bit 4 m ≡ false) where
   fitting-same (v ∷ []) rest e = absurd (omega arith)
   fitting-same (v ∷ w ∷ []) rest e = absurd (omega arith)
   fitting-same (v ∷ w ∷ x ∷ []) rest e = absurd (omega arith)
-  fitting-same (v ∷ w ∷ x ∷ y ∷ []) rest e = rw (mark4 m b, mark3 m, mark2 m, mark1 m, mark0 m) refl
+  fitting-same (v ∷ w ∷ x ∷ y ∷ []) rest e = rw (bit-under 4 1 m, bit-under 3 2 m, bit-under 2 4 m, bit-under 1 8 m, bit-under 0 16 m, b) refl
   fitting-same (v ∷ w ∷ x ∷ y ∷ z ∷ vs) rest e = absurd (omega arith)
 
   taken-same : (rest : List ℕ) → takeFields sizes4 (m + 32) defaults4 rest ≡ takeFields sizes4 m defaults4 rest
-  taken-same rest = rw (mark3 m, mark2 m, mark1 m, mark0 m) refl
+  taken-same rest = rw (bit-under 3 2 m, bit-under 2 4 m, bit-under 1 8 m, bit-under 0 16 m) refl
 
   fields-read-same : (rest : List ℕ) → readFields (m + 32) rest ≡ readFields4 m rest
   unfolding readFields readFields4
   fields-read-same rest =
-      last-absent 8 0 sizes4 defaults4 (m + 32) rest (fitting (m + 32)) (fitting4 m) refl (mark4 m b) fitting-same
+      last-absent 8 0 sizes4 defaults4 (m + 32) rest (fitting (m + 32)) (fitting4 m) refl (bit-under 4 1 m ∙ b) fitting-same
       ∙ ap (λ (p : Parsed (List ℕ)). andThen p (fitting4 m)) (taken-same rest)
 
   -- an upper bit of the earlier map is one of the marked map, or the salt's
@@ -127,7 +110,7 @@ low-bit : (m : ℕ) → m < 16 → bit 4 m ≡ false
 low-bit m h = ne-eqb (m / 2 / 2 / 2 / 2 % 2) 1 (λ z. omega arith)
 
 fields-same : (s : Settings) (m : ℕ) → bit 4 m ≡ false → fieldBytes sizes (m + 32) (valuesOf s) ≡ fieldBytes sizes4 m (valuesOf4 s)
-fields-same s m b = rw (mark4 m b, mark3 m, mark2 m, mark1 m, mark0 m) refl
+fields-same s m b = rw (bit-under 4 1 m, bit-under 3 2 m, bit-under 2 4 m, bit-under 1 8 m, bit-under 0 16 m, b) refl
 
 files : (s : Settings) (c : List ℕ) → s .salt ≡ 0 → fileOf s c ≡ marked (fileOf4 s c)
 unfolding fileOf fileOf4 header header4

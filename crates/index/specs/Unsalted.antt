@@ -1,4 +1,4 @@
--- Salt 0 gives what there was before settings had a salt, and whatever the salt is, it acts on tags alone.
+-- Under salt 0 tags are hashed as before settings had a salt, and whatever the salt is, it acts on tags alone.
 -- Assumes nothing.
 use mathlib.Core.Path.{_≡_}
 use mathlib.Core.List.{List}
