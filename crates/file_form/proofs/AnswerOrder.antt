@@ -46,7 +46,7 @@ no-byte = refl
 module _ (map : ℕ) (rest : List ℕ) where
   by-map : (n : ℕ) → firstMet (mapChecks map) ≡ some n → readHeader (map ∷ rest) ≡ stop n
   unfolding readHeader afterMap
-  by-map n e = ap (λ (o : Option ℕ). checked o (readFields map rest)) e
+  by-map n e = rw e refl
 
   upper : 64 ≤ map → readHeader (map ∷ rest) ≡ stop 12
   unfolding mapChecks
@@ -59,7 +59,7 @@ module _ (map : ℕ) (rest : List ℕ) where
 
     lower : bit 5 map ≡ true → (n : ℕ) → readFields map rest ≡ stop n → readHeader (map ∷ rest) ≡ stop n
     unfolding readHeader afterMap
-    lower b n e = ap (λ (o : Option ℕ). checked o (readFields map rest)) (map-passes map h b) ∙ e
+    lower b n e = rw (map-passes map h b) e
 
 -- a number of which not every byte is there, and one that is whole
 cut-number : (n : ℕ) (l : List ℕ) → length l < n → takeNumber n l ≡ stop 11
