@@ -3,21 +3,22 @@
 use mathlib.Core.Path.{_≡_, _∙_}
 use mathlib.Core.Bool.{Bool, true, false, cond}
 use Prim.Native.Nat.{ℕ, zero, suc, _+_, _*_, _-_, _/_, _%_, _^_, _≤_, _<_}
-use native.Mathlib.Nat.{mod-eq-of-lt, mul-add-mod-self-right}
 use native.Mathlib.Omega.{arith}
 use lib.Dec.{leb}
 use Rattle.lemmas.proofs.Sums.{times-eq, times-suc, times-mod}
-use Rattle.index.specs.Hash.{fingerprintOf}
+use Rattle.index.specs.Hash.{lowerHalf, fingerprintOf}
 use Rattle.index.specs.Even.{often, Even}
 use Rattle.index.specs.declared.Settings.{Settings}
 
+-- the upper half has no part in it
+lower-alone : (upper lower : ℕ) → lower < 2 ^ 32 → lowerHalf (upper * 2 ^ 32 + lower) ≡ lower
+unfolding lowerHalf
+lower-alone upper lower l = omega arith
+
 module _ (s : Settings) where
-  -- the upper half has no part in it
   lower-print : (upper lower : ℕ) → lower < 2 ^ 32 → fingerprintOf s (upper * 2 ^ 32 + lower) ≡ 1 + lower % (2 ^ s .width - 1)
   unfolding fingerprintOf
-  lower-print upper lower l =
-      let e : (upper * 2 ^ 32 + lower) % 2 ^ 32 ≡ lower = mul-add-mod-self-right upper (2 ^ 32) lower ∙ mod-eq-of-lt l in
-      rw e (omega arith)
+  lower-print upper lower l = rw (lower-alone upper lower l) (omega arith)
 
   share : (upper p : ℕ) → 0 < p → p < 2 ^ s .width → often s upper p ≡ 2 ^ 32 / (2 ^ s .width - 1) + cond (leb p (2 ^ 32 % (2 ^ s .width - 1))) 1 0
   unfolding often

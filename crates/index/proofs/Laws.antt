@@ -16,7 +16,7 @@ use Rattle.lemmas.proofs.Count.{hit-cases, among-cons, among-nil}
 use Rattle.lemmas.proofs.Members.{alike-refl, members-alike, into-members, from-members, members-ascend}
 use Rattle.lemmas.proofs.Bits.{mask-parts}
 use Rattle.index.specs.Settings.{byRule, settingsRefusal, half, modulus}
-use Rattle.index.specs.Hash.{fnv1a, tagHash, fingerprintOf, homeOf, fingerprint, home}
+use Rattle.index.specs.Hash.{fnv1a, tagHash, lowerHalf, fingerprintOf, homeOf, fingerprint, home}
 use Rattle.index.specs.Candidates.{offset, across, coMask, xorSteps, othersBy, others, candidates, candidateSet, classAt, classOf}
 use Rattle.index.specs.Laws.{Laws}
 use Rattle.index.specs.declared.Settings.{Settings}
@@ -156,7 +156,7 @@ module _ (s : Settings) (G : Good s) where
 
   fits : (h : ℕ) → fingerprintOf s h < 2 ^ s .width
   unfolding fingerprintOf
-  fits h = omega (arith, mod-lt (h % 2 ^ 32) (some-prints G))
+  fits h = omega (arith, mod-lt (lowerHalf h) (some-prints G))
 
   mask-low : s .mask < s .buckets
   mask-low = elim (ℕ-discrete (s .rule) 2) [

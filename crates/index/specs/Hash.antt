@@ -29,9 +29,13 @@ fnvFrom h (b ∷ bs) = fnvFrom (fnvStep h b) bs
 unfoldable pub fnv1a : List ℕ → ℕ
 fnv1a bytes = fnvFrom fnvStart bytes
 
--- the fingerprint (document 01: the print) of a hash: its lower 32 bits, spread over 1 to 2 to the w less 1. 0 marks an empty cell
+-- the lower half of a hash
+unfoldable pub lowerHalf : ℕ → ℕ
+lowerHalf h = h % 2 ^ 32
+
+-- the fingerprint (document 01: the print) of a hash: its lower half, spread over 1 to 2 to the w less 1. 0 marks an empty cell
 unfoldable pub fingerprintOf : Settings → ℕ → ℕ
-fingerprintOf s h = 1 + h % 2 ^ 32 % (2 ^ s .width - 1)
+fingerprintOf s h = 1 + lowerHalf h % (2 ^ s .width - 1)
 
 -- the home bucket of a hash, by its upper 32 bits
 unfoldable pub homeOf : Settings → ℕ → ℕ

@@ -1,7 +1,7 @@
 use borrow.Author.Needs.{needs}
 use lib.Pow.{pow-pos}
 use native.Mathlib.Omega.{arith}
-use Rattle.index.specs.Hash.{fingerprintOf}
+use Rattle.index.specs.Hash.{lowerHalf, fingerprintOf}
 use Rattle.index.proofs.Computes.{one-shifted, print-small}
 use Rattle.index.proofs.Good.{Good, good, some-prints}
 use Rattle.index.proofs.fingerprint_of.Statement.{statement}
@@ -26,7 +26,7 @@ cast-result : tie.Need-cast-result
 cast-result c = record { fits = rw (one-shifted (fine c)) (omega (arith, print-small (fine c) (c .args .h))) }
 
 returns : tie.Need-returns
-unfolding fingerprintOf
+unfolding lowerHalf fingerprintOf
 returns c = rw (one-shifted (fine c)) (omega arith)
 
 pub fingerprint-of-spec : {M : Type 1} → statement M
