@@ -23,6 +23,7 @@ static uint16_t table[HOLDLIST_CELLS(BUCKETS)];
 static uint16_t copy[HOLDLIST_CELLS(BUCKETS)];
 static uint32_t scratch[HOLDLIST_SCRATCH(BUCKETS)];
 static uint8_t file[HOLDLIST_FILE_BYTES(BUCKETS)];
+static const uint8_t masked[] = {0x2f, 2, 4, 0, 0, 0, 0, 0x0a, 9, 0, 3, 0};
 static uint8_t packed[HOLDLIST_PACKED_BYTES(12, BUCKETS)];
 
 static const uint8_t *bytes_of(const char *tag) { return (const uint8_t *)tag; }
@@ -94,6 +95,12 @@ int main(void)
     file[0] &= 0xdf; /* without the mark of its fingerprints, as files were before version 0.5 */
     answer = holdlist_file_read(file, (size_t)size, LENT(copy), &named);
     printf("an earlier file: %" PRId64 ", %s\n", answer, holdlist_refusal_text(answer));
+
+    /* a list that was kept under rule 2 with mask 0 when that still passed: a byte for the rule, two for the mask */
+    printf("an earlier mask: %" PRId64 ", then %" PRId64 " bytes", holdlist_file_settings(LENT(masked), &named),
+           holdlist_file_convert(LENT(masked), file, sizeof file));
+    answer = holdlist_file_settings(file, sizeof file, &named);
+    printf(" of rule %" PRIu32 ", width %" PRIu32 ", buckets %" PRIu32 "\n", named.rule, named.width, named.buckets);
 
     /* packed, and read into another table: the same entries */
     size = holdlist_packed_write(&settings, LENT(table), packed, sizeof packed);

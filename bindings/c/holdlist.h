@@ -9,11 +9,11 @@
  * the names HOLDLIST_REFUSED_.. below, so that -7 means 7. A refused call has written nothing to the table, to out or
  * to settings, and the contents of scratch stay as they were unless the number is 9.
  *
- * SETTINGS. A pointer to a holdlist_settings, below, comes first in every call but the two that read a hold file, which
- * write one. Settings are checked before anything else, in the order of their members, and give 1, 2, 3 or 4; every
- * salt passes. A table is used with the settings that it was cleared or read with: nothing in it says which those were.
- * A later version may append members, so set them all: an initialiser, as { 1, 12, 1000, 0 }, makes those that it
- * leaves out 0. Version 0.4 appended the salt: what was compiled with an older header has to be compiled anew.
+ * SETTINGS. A pointer to a holdlist_settings, below, comes first in every call but the three that read a hold file, of
+ * which two write one. Settings are checked before anything else, in the order of their members, and give 1, 2, 3 or
+ * 4; every salt passes. A table is used with the settings that it was cleared or read with: nothing in it says which
+ * those were. A later version may append members, so set them all: an initialiser, as { 1, 12, 1000, 0 }, makes those
+ * that it leaves out 0. Version 0.4 appended the salt: what was compiled with an older header has to be compiled anew.
  *
  * SALT. A clear tag that shares fingerprint and candidates with a held one reads held. Under one salt the same unlucky
  * tags do so all year; under another others do, so each season's list can have its own. Let salts differ in their low
@@ -24,6 +24,9 @@
  * EARLIER LISTS. Since version 0.5 tags have other fingerprints than before, which come up equally often. A hold file
  * of an earlier version is refused with 23. A table or a packed form of one does not tell what it is: nothing refuses
  * it, and its tags are found in it by chance alone. So lists are filled anew from the register.
+ * Since version 0.6 no mask of 0 or buckets - 1 passes under rule 2: of the four candidates two were the same as the
+ * others. holdlist_file_convert makes a hold file of such a mask one of rule 0; a table or a packed form serves under
+ * rule 0 as it is.
  *
  * BUFFERS. A buffer is a pointer and a count of elements. It holds at least that many elements and is aligned as its
  * element type asks; a null pointer with count 0 is an empty buffer. A buffer that a call writes overlaps none of its
@@ -53,16 +56,16 @@ extern "C" {
 
 /* The version, that of the whole repository (its file VERSION). */
 #define HOLDLIST_VERSION_MAJOR 0
-#define HOLDLIST_VERSION_MINOR 5
+#define HOLDLIST_VERSION_MINOR 6
 #define HOLDLIST_VERSION_PATCH 0
-#define HOLDLIST_VERSION "0.5.0"
+#define HOLDLIST_VERSION "0.6.0"
 
 /* Settings, any numbers of which can be handed in. */
 typedef struct {
     uint32_t rule;    /* 0 plain, 1 ring, 2 masked */
     uint32_t width;   /* bits of a fingerprint, 4 to 16 */
     uint32_t buckets; /* 1 to 65536: a power of two under rules 0 and 2, even under rule 1 */
-    uint32_t mask;    /* below buckets under rule 2, and 0 under the others */
+    uint32_t mask;    /* 1 to buckets - 2 under rule 2, which so has 4 buckets at least, and 0 under the others */
     uint64_t salt;    /* any number: put by exclusive or to the start of the hash of a tag */
 } holdlist_settings;
 
@@ -82,26 +85,27 @@ typedef char holdlist_settings_are_six_numbers
 
 /* What a refusal's number means. There is no 10, 21 or 22. */
 enum {
-    HOLDLIST_REFUSED_RULE = 1,             /* the rule is above 2 */
-    HOLDLIST_REFUSED_WIDTH = 2,            /* the width is outside 4 to 16 */
-    HOLDLIST_REFUSED_BUCKETS = 3,          /* 0 or above 65536; no power of two (rules 0, 2); odd (rule 1) */
-    HOLDLIST_REFUSED_MASK = 4,             /* the bucket count or more (rule 2); not 0 (rules 0, 1) */
-    HOLDLIST_REFUSED_TABLE = 5,            /* the table does not have 4 * buckets cells */
-    HOLDLIST_REFUSED_SCRATCH = 6,          /* scratch has fewer than 2 * buckets numbers */
-    HOLDLIST_REFUSED_TAG = 7,              /* the tag has no byte or more than 64 */
-    HOLDLIST_REFUSED_BUCKET = 8,           /* there is no bucket of this number */
-    HOLDLIST_REFUSED_FULL = 9,             /* the list has no room for the tag, however its entries are moved */
-    HOLDLIST_REFUSED_SHORT = 11,           /* the bytes end early */
-    HOLDLIST_REFUSED_MAP = 12,             /* a map bit 6 or 7; a field with its default; a mask against the rule */
-    HOLDLIST_REFUSED_BUCKET_BYTE = 13,     /* a bucket's byte is above 15 */
-    HOLDLIST_REFUSED_FINGERPRINT = 14,     /* a fingerprint is 0, or 2^width or more */
-    HOLDLIST_REFUSED_LEFT_OVER = 15,       /* bytes are left over */
-    HOLDLIST_REFUSED_OUTPUT = 16,          /* the output is too short */
-    HOLDLIST_REFUSED_CELL = 17,            /* a cell is 2^width or more */
-    HOLDLIST_REFUSED_ROW = 18,             /* a row number is 3876 or more */
-    HOLDLIST_REFUSED_ORDER = 19,           /* a bucket is not ascending */
-    HOLDLIST_REFUSED_FILLING = 20,         /* a filling bit is set */
-    HOLDLIST_REFUSED_OLD_FINGERPRINTS = 23 /* map bit 5 is 0: a hold file of earlier fingerprints */
+    HOLDLIST_REFUSED_RULE = 1,              /* the rule is above 2 */
+    HOLDLIST_REFUSED_WIDTH = 2,             /* the width is outside 4 to 16 */
+    HOLDLIST_REFUSED_BUCKETS = 3,           /* 0 or above 65536; no power of two (rules 0, 2); odd (rule 1) */
+    HOLDLIST_REFUSED_MASK = 4,              /* 0, or the bucket count less 1, or more (rule 2); not 0 (rules 0, 1) */
+    HOLDLIST_REFUSED_TABLE = 5,             /* the table does not have 4 * buckets cells */
+    HOLDLIST_REFUSED_SCRATCH = 6,           /* scratch has fewer than 2 * buckets numbers */
+    HOLDLIST_REFUSED_TAG = 7,               /* the tag has no byte or more than 64 */
+    HOLDLIST_REFUSED_BUCKET = 8,            /* there is no bucket of this number */
+    HOLDLIST_REFUSED_FULL = 9,              /* the list has no room for the tag, however its entries are moved */
+    HOLDLIST_REFUSED_SHORT = 11,            /* the bytes end early */
+    HOLDLIST_REFUSED_MAP = 12,              /* a map bit 6 or 7; a field with its default; a mask against the rule */
+    HOLDLIST_REFUSED_BUCKET_BYTE = 13,      /* a bucket's byte is above 15 */
+    HOLDLIST_REFUSED_FINGERPRINT = 14,      /* a fingerprint is 0, or 2^width or more */
+    HOLDLIST_REFUSED_LEFT_OVER = 15,        /* bytes are left over */
+    HOLDLIST_REFUSED_OUTPUT = 16,           /* the output is too short */
+    HOLDLIST_REFUSED_CELL = 17,             /* a cell is 2^width or more */
+    HOLDLIST_REFUSED_ROW = 18,              /* a row number is 3876 or more */
+    HOLDLIST_REFUSED_ORDER = 19,            /* a bucket is not ascending */
+    HOLDLIST_REFUSED_FILLING = 20,          /* a filling bit is set */
+    HOLDLIST_REFUSED_OLD_FINGERPRINTS = 23, /* map bit 5 is 0: a hold file of earlier fingerprints */
+    HOLDLIST_REFUSED_NO_CONVERSION = 24     /* a sound hold file whose rule or mask needs no conversion */
 };
 
 /*
@@ -119,7 +123,7 @@ static inline const char *holdlist_refusal_text(int64_t refusal)
     case -HOLDLIST_REFUSED_BUCKETS:
         return "the bucket count is 0 or above 65536, no power of two under rule 0 or 2, or odd under rule 1";
     case -HOLDLIST_REFUSED_MASK:
-        return "the mask is not below the bucket count under rule 2, or not 0 under rule 0 or 1";
+        return "the mask is not from 1 to the bucket count less 2 under rule 2, or not 0 under rule 0 or 1";
     case -HOLDLIST_REFUSED_TABLE:
         return "the table does not have four cells for each bucket";
     case -HOLDLIST_REFUSED_SCRATCH:
@@ -152,6 +156,8 @@ static inline const char *holdlist_refusal_text(int64_t refusal)
         return "a filling bit is set";
     case -HOLDLIST_REFUSED_OLD_FINGERPRINTS:
         return "the file has fingerprints of an earlier kind: fill the list anew from the register";
+    case -HOLDLIST_REFUSED_NO_CONVERSION:
+        return "the file needs no conversion: it is sound and of another rule or mask";
     default:
         return "there is no refusal of this number";
     }
@@ -255,6 +261,16 @@ int64_t holdlist_file_settings(const uint8_t *bytes, size_t bytes_count, holdlis
  */
 int64_t holdlist_file_read(const uint8_t *bytes, size_t bytes_count, uint16_t *table, size_t table_count,
                            holdlist_settings *settings);
+
+/*
+ * Converts a hold file of rule 2 whose mask is 0 or buckets - 1, which no other call takes since version 0.6: writes
+ * the same list under rule 0, with the same width, bucket count, salt and cells. Answers how many bytes of out it
+ * wrote, three fewer than the file has; later bytes of out keep their values. On the converted list every tag is looked
+ * up, held and released as it was. The file is checked as holdlist_file_read checks it, but that such a mask passes and
+ * that there is no table.
+ * Refuses with 11, 12, 23, then 1 to 4 for the file's settings, 11, 13, 14, 15, 24, 16.
+ */
+int64_t holdlist_file_convert(const uint8_t *bytes, size_t bytes_count, uint8_t *out, size_t out_count);
 
 /*
  * Writes the list in its packed form, which leaves out the settings, the salt among them, and the order within a

@@ -38,9 +38,8 @@ pub(crate) fn check_table(settings: Settings, table: &[u16]) -> Answer<()> {
     Ok(())
 }
 
-/// What either writer checks before its output.
+/// What either writer checks before its output, where settings and table are known to be good.
 pub(crate) fn check_cells(settings: Settings, table: &[u16]) -> Answer<()> {
-    check_table(settings, table)?;
     let any = table.iter().fold(0, |any, cell| any | cell);
     if u32::from(any) >> settings.width != 0 {
         return Err(17);
@@ -92,6 +91,13 @@ impl Head {
 
 /// Writes the file, and answers how many bytes it has.
 pub fn write(settings: Settings, table: &[u16], out: &mut [u8]) -> Answer<usize> {
+    check_table(settings, table)?;
+    write_unchecked(settings, table, out)
+}
+
+/// The writing, where settings and table are known to be good.
+#[inline]
+pub(crate) fn write_unchecked(settings: Settings, table: &[u16], out: &mut [u8]) -> Answer<usize> {
     check_cells(settings, table)?;
     let head = Head::of(settings);
     let head = head.as_slice();
@@ -234,11 +240,36 @@ pub fn read(bytes: &[u8], table: &mut [u16]) -> Answer<Settings> {
     Ok(settings)
 }
 
+/// Writes the list of a file whose mask does no work as a file of the plain rule, and answers how
+/// many bytes it has. An entry has the same candidates there, so that every cell can stay.
+pub fn convert(bytes: &[u8], out: &mut [u8]) -> Answer<usize> {
+    let mut rest = bytes;
+    let settings = take_head(&mut rest)?;
+    settings.former_check()?;
+    check_buckets(settings, rest)?;
+    if !settings.idle_mask() {
+        return Err(24);
+    }
+    let head = Head::of(Settings {
+        rule: PLAIN,
+        mask: DEFAULTS.mask,
+        ..settings
+    });
+    let head = head.as_slice();
+    let length = head.len() + rest.len();
+    let out = out.get_mut(..length).ok_or(16u32)?;
+    out[..head.len()].copy_from_slice(head);
+    out[head.len()..].copy_from_slice(rest);
+    Ok(length)
+}
+
 #[cfg(test)]
 mod tests {
     use super::*;
+    use crate::former;
     use crate::index::RING;
     use crate::requests::Mix;
+    use crate::table::{hold, lookup, release};
 
     const EXAMPLE: [u8; 9] = [0x26, 0x04, 0x00, 0x00, 0x0a, 0x09, 0x00, 0x03, 0x00];
 
@@ -321,8 +352,8 @@ mod tests {
         assert_eq!(head(RING, 12, 4_096, 0), [0x21, 1]);
         assert_eq!(head(PLAIN, 16, 4_096, 0), [0x22, 16]);
         assert_eq!(head(PLAIN, 12, 65_536, 0), [0x24, 0xff, 0xff]);
-        assert_eq!(head(MASKED, 12, 4_096, 0), [0x29, 2, 0, 0]);
-        assert_eq!(head(MASKED, 5, 1, 0), [0x2f, 2, 5, 0, 0, 0, 0]);
+        assert_eq!(head(MASKED, 12, 4_096, 1), [0x29, 2, 1, 0]);
+        assert_eq!(head(MASKED, 5, 4, 2), [0x2f, 2, 5, 3, 0, 2, 0]);
         assert_eq!(
             head(MASKED, 4, 1_024, 0x155),
             [0x2f, 2, 4, 0xff, 3, 0x55, 0x01]
@@ -357,9 +388,9 @@ mod tests {
             Settings::new(PLAIN, 4, 65_536, 0),
             Settings::new(RING, 12, 6, 0),
             Settings::new(RING, 16, 65_534, 0),
-            Settings::new(MASKED, 12, 4_096, 0),
-            Settings::new(MASKED, 7, 65_536, 65_535),
-            Settings::new(MASKED, 4, 1, 0),
+            Settings::new(MASKED, 12, 4_096, 1),
+            Settings::new(MASKED, 7, 65_536, 65_534),
+            Settings::new(MASKED, 4, 4, 2),
             DEFAULTS.with_salt(1),
             Settings::new(RING, 5, 6, 0).with_salt(u64::MAX),
             Settings::new(MASKED, 9, 16, 12).with_salt(SOME_SALT),
@@ -405,6 +436,8 @@ mod tests {
         assert_eq!(refused(Settings::new(PLAIN, 17, 3, 3), 3, 99, 0), 2);
         assert_eq!(refused(Settings::new(PLAIN, 4, 3, 3), 3, 99, 0), 3);
         assert_eq!(refused(Settings::new(PLAIN, 4, 2, 3), 3, 99, 0), 4);
+        assert_eq!(refused(Settings::new(MASKED, 4, 2, 1), 3, 99, 0), 4);
+        assert_eq!(refused(Settings::new(MASKED, 4, 4, 0), 16, 1, 99), 4);
         assert_eq!(refused(Settings::new(PLAIN, 4, 2, 0), 7, 99, 0), 5);
         assert_eq!(refused(Settings::new(PLAIN, 4, 2, 0), 9, 99, 0), 5);
         assert_eq!(refused(Settings::new(PLAIN, 4, 2, 0), 8, 16, 0), 17);
@@ -466,6 +499,11 @@ mod tests {
         assert_eq!(with(1, 17), 2);
         assert_eq!(with(2, 2), 3);
         assert_eq!(refusal(&[0x2d, 0x02, 0x00, 0x00, 0x01, 0x00], 4), 4);
+        // A mask that does no work.
+        for (last, mask) in [(0, 0), (1, 0), (1, 1), (3, 0), (3, 3), (7, 7)] {
+            let bytes = [&[0x2d, 2, last, 0, mask, 0][..], &[0; 8][..=last.into()]].concat();
+            assert_eq!(refusal(&bytes, 4 * (usize::from(last) + 1)), 4);
+        }
         // The table.
         assert_eq!(refusal(&EXAMPLE, 3), 5);
         assert_eq!(refusal(&EXAMPLE, 5), 5);
@@ -545,6 +583,9 @@ mod tests {
         assert_eq!(refusal(&[0x26, 0x11, 0x02, 0x00], 0), 2);
         assert_eq!(refusal(&[0x2d, 0x02, 0x02, 0x00, 0x09, 0x00], 0), 3);
         assert_eq!(refusal(&[0x2d, 0x02, 0x01, 0x00, 0x09, 0x00], 0), 4);
+        assert_eq!(refusal(&[0x2d, 0x02, 0x02, 0x00, 0x02, 0x00], 0), 3);
+        assert_eq!(refusal(&[0x2d, 0x02, 0x03, 0x00, 0x03, 0x00], 0), 4);
+        assert_eq!(refusal(&[0x29, 0x02, 0x00, 0x00, 0xff], 0), 4);
         // The table before the buckets.
         assert_eq!(refusal(&[0x26, 0x04, 0x00, 0x00], 5), 5);
         assert_eq!(refusal(&[0x26, 0x04, 0x00, 0x00, 0xff], 0), 5);
@@ -560,5 +601,308 @@ mod tests {
         assert_eq!(buckets(&[0x00, 0x01, 0, 0, 0]), 14);
         assert_eq!(buckets(&[0x00, 0x00, 0xff, 0xff]), 15);
         assert_eq!(buckets(&[0x01, 15, 0]), 11);
+    }
+
+    /// Cells and their file, under settings that passed the former check.
+    fn former_list(mix: &mut Mix, s: Settings, empty: u32) -> (Vec<u16>, Vec<u8>) {
+        let table: Vec<u16> = (0..4 * s.buckets)
+            .map(|_| match mix.below(4) < empty {
+                true => 0,
+                false => mix.below(1 << s.width) as u16,
+            })
+            .collect();
+        let mut file = vec![0; HEAD + 9 * s.buckets as usize];
+        let length = former::write(s, &table, &mut file).unwrap();
+        file.truncate(length);
+        (table, file)
+    }
+
+    /// Settings whose mask does no work, with the default width and bucket count among them.
+    fn former_settings() -> Vec<Settings> {
+        let mut all = vec![];
+        for width in [4, 12, 16] {
+            for buckets in [1, 2, 4, 16, 4_096, 65_536] {
+                for mask in [0, buckets - 1] {
+                    for salt in [0, 1, SOME_SALT] {
+                        all.push(Settings::new(MASKED, width, buckets, mask).with_salt(salt));
+                    }
+                }
+            }
+        }
+        all
+    }
+
+    /// What converting is refused with, where a refusal has to leave the output alone.
+    fn not_converted(bytes: &[u8], room: usize) -> u32 {
+        let mut out = vec![0xee; room];
+        let answer = convert(bytes, &mut out);
+        assert!(out.iter().all(|&byte| byte == 0xee));
+        answer.unwrap_err()
+    }
+
+    /// Four buckets of width 4 under the mask 3, of which the second is empty.
+    const FORMER: [u8; 21] = [
+        0x2f, 2, 4, 3, 0, 3, 0, 0x0a, 9, 0, 3, 0, 0x00, 0x01, 15, 0, 0x0c, 1, 0, 2, 0,
+    ];
+
+    #[test]
+    fn converted_example() {
+        let plain = [
+            0x26, 4, 3, 0, 0x0a, 9, 0, 3, 0, 0x00, 0x01, 15, 0, 0x0c, 1, 0, 2, 0,
+        ];
+        let mut out = [0xee; 24];
+        assert_eq!(convert(&FORMER, &mut out), Ok(18));
+        assert_eq!(out[..18], plain);
+        assert_eq!(out[18..], [0xee; 6]);
+        let mut table = [7; 16];
+        let settings = Settings::new(PLAIN, 4, 4, 0);
+        assert_eq!(read(&out[..18], &mut table), Ok(settings));
+        let cells = [0, 9, 0, 3, 0, 0, 0, 0, 15, 0, 0, 0, 0, 0, 1, 2];
+        assert_eq!(table, cells);
+        // The reader refuses what was converted.
+        assert_eq!(refusal(&FORMER, 16), 4);
+        // One bucket, the default width, a salt.
+        let former = [
+            0x3d, 2, 0, 0, 0, 0, 0xef, 0xcd, 0xab, 0x89, 0x67, 0x45, 0x23, 0x01, 0x08, 0xff, 0x0f,
+        ];
+        let plain = [
+            0x34, 0, 0, 0xef, 0xcd, 0xab, 0x89, 0x67, 0x45, 0x23, 0x01, 0x08, 0xff, 0x0f,
+        ];
+        let mut out = [0xee; 14];
+        assert_eq!(convert(&former, &mut out), Ok(14));
+        assert_eq!(out, plain);
+        // The default width and bucket count: all that is left is the map.
+        for mask in [[0, 0], [0xff, 0x0f]] {
+            let former = [&[0x29, 2][..], &mask, &[0; 4_096]].concat();
+            let mut out = vec![0xee; 4_098];
+            assert_eq!(convert(&former, &mut out), Ok(4_097));
+            assert_eq!((out[0], out[4_097]), (0x20, 0xee));
+            assert!(out[1..4_097].iter().all(|&byte| byte == 0));
+        }
+    }
+
+    /// The rule and the mask go, with their bits, and every other byte stays; the plain writer makes
+    /// the same file.
+    #[test]
+    fn converted_files() {
+        let mut mix = Mix(13);
+        for s in former_settings() {
+            let plain = Settings {
+                rule: PLAIN,
+                mask: 0,
+                ..s
+            };
+            for empty in [0, 2, 100] {
+                let (table, file) = former_list(&mut mix, s, empty);
+                let mut left = file.clone();
+                left[0] ^= RULE | MASK;
+                let mask = 2 + usize::from(s.width != 12) + 2 * usize::from(s.buckets != 4_096);
+                left.drain(mask..mask + 2);
+                left.remove(1);
+                let n = left.len();
+                let mut out = mix.bytes(file.len() + 3);
+                let before = out.clone();
+                assert_eq!(convert(&file, &mut out), Ok(n), "{s:?}");
+                assert!(out[..n] == left && out[n..] == before[n..]);
+                let mut written = vec![0; n];
+                assert_eq!(write(plain, &table, &mut written), Ok(n));
+                assert_eq!(written, left);
+                let mut back = vec![0xffff; table.len()];
+                assert_eq!(read(&left, &mut back), Ok(plain));
+                assert_eq!(back, table);
+                // Just enough room, and too little.
+                let mut exact = vec![0; n];
+                assert_eq!(convert(&file, &mut exact), Ok(n));
+                assert_eq!(exact, left);
+                for room in [0, 1, n - 1] {
+                    assert_eq!(not_converted(&file, room), 16);
+                }
+                // What came of it is no such file, and the reader has none of the first.
+                assert_eq!(not_converted(&left, n), 24);
+                assert_eq!(refusal(&file, table.len()), 4);
+            }
+        }
+    }
+
+    /// What is wrong with the file comes before its rule and mask, and those before the room.
+    #[test]
+    fn converter_refuses_in_order() {
+        let room = FORMER.len();
+        let with = |at: usize, byte: u8| {
+            let mut bytes = FORMER;
+            bytes[at] = byte;
+            assert_eq!(not_converted(&bytes, 0), not_converted(&bytes, room));
+            not_converted(&bytes, 0)
+        };
+        for length in 0..FORMER.len() {
+            assert_eq!(not_converted(&FORMER[..length], 0), 11, "{length}");
+            assert_eq!(not_converted(&FORMER[..length], room), 11, "{length}");
+        }
+        // The map, and the marks of the fields.
+        assert_eq!(with(0, 0x6f), 12);
+        assert_eq!(with(0, 0x4f), 12);
+        assert_eq!(with(0, 0x8f), 12);
+        assert_eq!(with(0, 0x0f), 23);
+        assert_eq!(not_converted(&[0x0f], 0), 23);
+        assert_eq!(not_converted(&[0x2f, 2, 12, 3, 0, 0], 0), 11);
+        assert_eq!(with(1, 0), 12);
+        assert_eq!(with(1, 1), 12);
+        assert_eq!(with(1, 3), 12);
+        assert_eq!(with(2, 12), 12);
+        assert_eq!(not_converted(&[0x2d, 2, 0xff, 0x0f, 0, 0], 0), 12);
+        assert_eq!(
+            not_converted(&[0x39, 2, 0, 0, 0, 0, 0, 0, 0, 0, 0, 0], 0),
+            12
+        );
+        assert_eq!(not_converted(&[0x21, 2], 0), 12);
+        // The settings, before the buckets.
+        assert_eq!(not_converted(&[0x27, 3, 17, 2, 0], 0), 1);
+        assert_eq!(with(2, 17), 2);
+        assert_eq!(with(2, 3), 2);
+        assert_eq!(with(3, 2), 3);
+        assert_eq!(with(3, 4), 3);
+        assert_eq!(with(5, 4), 4);
+        assert_eq!(with(6, 1), 4);
+        assert_eq!(with(3, 1), 4);
+        assert_eq!(not_converted(&[0x2d, 2, 0, 0, 1, 0, 0xff], 0), 4);
+        assert_eq!(not_converted(&[0x2d, 2, 1, 0, 2, 0], 0), 4);
+        assert_eq!(not_converted(&[0x29, 2, 0, 0x10], 0), 4);
+        // The buckets by their bytes.
+        assert_eq!(with(7, 0x1a), 13);
+        assert_eq!(with(16, 0x1c), 13);
+        assert_eq!(with(8, 0), 14);
+        assert_eq!(with(8, 16), 14);
+        assert_eq!(with(20, 1), 14);
+        assert_eq!(with(16, 0x0e), 11);
+        assert_eq!(with(16, 0x04), 15);
+        assert_eq!(not_converted(&[&FORMER[..], &[0]].concat(), 0), 15);
+        assert_eq!(not_converted(&[&FORMER[..], &[0xff]].concat(), 99), 15);
+        // Masks that work, and then the room.
+        assert_eq!(with(5, 1), 24);
+        assert_eq!(with(5, 2), 24);
+        for length in 0..18 {
+            assert_eq!(not_converted(&FORMER, length), 16, "{length}");
+        }
+    }
+
+    /// A good file of another rule or mask: 24, with room or with none. A fault comes before that.
+    #[test]
+    fn other_files_are_not_converted() {
+        let mut mix = Mix(14);
+        for s in [
+            Settings::new(PLAIN, 12, 4_096, 0),
+            Settings::new(PLAIN, 4, 1, 0),
+            Settings::new(PLAIN, 12, 2, 0).with_salt(SOME_SALT),
+            Settings::new(RING, 12, 2, 0),
+            Settings::new(RING, 16, 6, 0).with_salt(1),
+            Settings::new(MASKED, 12, 4, 1),
+            Settings::new(MASKED, 12, 4, 2),
+            Settings::new(MASKED, 5, 16, 1).with_salt(SOME_SALT),
+            Settings::new(MASKED, 5, 16, 14),
+            Settings::new(MASKED, 12, 4_096, 1),
+            Settings::new(MASKED, 12, 4_096, 4_094),
+            Settings::new(MASKED, 12, 65_536, 65_534),
+        ] {
+            let (table, file) = former_list(&mut mix, s, 2);
+            assert_eq!(read(&file, &mut vec![0; table.len()]), Ok(s));
+            for room in [0, 1, file.len() - 1, file.len(), file.len() + 1] {
+                assert_eq!(not_converted(&file, room), 24, "{s:?}");
+            }
+            let longer = [&file[..], &[0]].concat();
+            assert_eq!(not_converted(&longer, longer.len()), 15);
+            let shorter = &file[..file.len() - 1];
+            assert_eq!(not_converted(shorter, file.len()), 11);
+            let mut map = file.clone();
+            let first = Head::of(s).length;
+            map[first] |= 0x10;
+            assert_eq!(not_converted(&map, 0), 13);
+        }
+    }
+
+    /// A list goes on after it is converted as it would have: every tag has the same number, every
+    /// hold the same moves or refusal, and every cell stays the same.
+    #[test]
+    fn converted_lists_go_on() {
+        let mut mix = Mix(15);
+        let (mut held, mut moved, mut full) = (0, 0, 0);
+        for s in former_settings() {
+            if s.buckets > 16 && (s.width != 12 || s.salt == 1) {
+                continue;
+            }
+            let words = 2 * s.buckets as usize;
+            let mut former_scratch: Vec<u32> = (0..words).map(|_| mix.draw() as u32).collect();
+            let mut scratch = vec![0; words];
+            let mut former_table = vec![0; 4 * s.buckets as usize];
+            // To about nine tenths, where holds start to move others.
+            for _ in 0..former_table.len() * 9 / 10 {
+                let tag = mix.bytes(5);
+                let _ = former::hold(s, &mut former_table, &mut former_scratch, &tag);
+            }
+            let mut file = vec![0; HEAD + 9 * s.buckets as usize];
+            let length = former::write(s, &former_table, &mut file).unwrap();
+            let mut out = vec![0; length];
+            let length = convert(&file[..length], &mut out).unwrap();
+            let mut table = vec![0; former_table.len()];
+            let plain = read(&out[..length], &mut table).unwrap();
+            assert!(table == former_table, "{s:?}");
+            // Few kinds of tags, so that some are held more than once.
+            let kinds = u64::from(3 * s.buckets.min(100));
+            for step in 0..4 * kinds {
+                let mut tag = || mix.below(kinds).to_le_bytes();
+                let (one, other) = (tag(), tag());
+                let copies = lookup(plain, &table, &one);
+                assert_eq!(copies, former::lookup(s, &former_table, &one), "{s:?}");
+                let answer = hold(plain, &mut table, &mut scratch, &one);
+                let former = former::hold(s, &mut former_table, &mut former_scratch, &one);
+                assert_eq!(answer, former, "{s:?}");
+                held += u32::from(matches!(copies, Ok(2..)));
+                moved += u32::from(matches!(answer, Ok(1..)));
+                full += u32::from(answer == Err(9));
+                if step % 3 == 0 {
+                    let answer = release(plain, &mut table, &other);
+                    let former = former::release(s, &mut former_table, &other);
+                    assert_eq!(answer, former, "{s:?}");
+                }
+                assert!(s.buckets > 16 || table == former_table, "{s:?}");
+            }
+            assert!(table == former_table, "{s:?}");
+        }
+        for count in [held, moved, full] {
+            assert!(count > 300, "{held} {moved} {full}");
+        }
+    }
+
+    /// Every class: the copies that a lookup under the former candidates finds, bucket by bucket,
+    /// are those of a lookup in the plain list, in tables of any cells.
+    #[test]
+    fn copies_in_converted_tables() {
+        let mut mix = Mix(16);
+        let mut found = 0;
+        for s in former_settings() {
+            if s.buckets > 16 {
+                continue;
+            }
+            for _ in 0..60 {
+                let tag = mix.bytes(3);
+                let (fingerprint, home) = s.entry_unchecked(&tag).unwrap();
+                let former = s.candidates_unchecked(fingerprint, home);
+                let table: Vec<u16> = (0..4 * s.buckets)
+                    .map(|_| mix.below(2) as u16 * fingerprint)
+                    .collect();
+                let copies = (0..table.len())
+                    .filter(|&i| former.as_slice().contains(&(i as u32 / 4)))
+                    .filter(|&i| table[i] == fingerprint)
+                    .count() as u32;
+                let mut file = vec![0; HEAD + 9 * s.buckets as usize];
+                let length = former::write(s, &table, &mut file).unwrap();
+                let mut out = vec![0; length];
+                let length = convert(&file[..length], &mut out).unwrap();
+                let mut back = vec![0; table.len()];
+                let plain = read(&out[..length], &mut back).unwrap();
+                assert_eq!(lookup(plain, &back, &tag), Ok(copies), "{s:?}");
+                found += copies;
+            }
+        }
+        assert!(found > 5_000, "{found}");
     }
 }

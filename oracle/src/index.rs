@@ -37,6 +37,16 @@ impl Settings {
 
     #[inline]
     pub fn check(self) -> Answer<()> {
+        self.former_check()?;
+        if self.idle_mask() {
+            return Err(4);
+        }
+        Ok(())
+    }
+
+    /// The check as it was when a mask that does no work was still taken.
+    #[inline]
+    pub fn former_check(self) -> Answer<()> {
         if ![PLAIN, RING, MASKED].contains(&self.rule) {
             return Err(1);
         }
@@ -58,6 +68,13 @@ impl Settings {
             return Err(4);
         }
         Ok(())
+    }
+
+    /// Whether the mask does no work: it takes nothing of an offset, or all of it. Then the masked
+    /// rule has the candidates of the plain one, some of them twice. The bucket count is not 0.
+    #[inline]
+    pub fn idle_mask(self) -> bool {
+        self.rule == MASKED && (self.mask == 0 || self.mask == self.buckets - 1)
     }
 
     /// Home buckets and offsets are remainders by this number: a block of the ring, or all buckets.
@@ -224,17 +241,55 @@ mod tests {
         assert_eq!(check(2, 17, 0, 1), Err(2));
         assert_eq!(check(2, 16, 0, 1), Err(3));
         assert_eq!(check(2, 16, 8, 8), Err(4));
-        assert_eq!(check(2, 4, 8, 7), Ok(()));
+        assert_eq!(check(2, 4, 8, 6), Ok(()));
         assert_eq!(check(0, 12, 4_096, 0), Ok(()));
         assert_eq!(check(0, 12, 4_096, 1), Err(4));
+        // A mask that does no work, after what is wrong with the others.
+        assert_eq!(check(3, 17, 3, 2), Err(1));
+        assert_eq!(check(2, 17, 3, 2), Err(2));
+        assert_eq!(check(2, 16, 3, 2), Err(3));
+        assert_eq!(check(2, 16, 3, 0), Err(3));
+        assert_eq!(check(2, 16, 0, 0), Err(3));
+        assert_eq!(check(2, 16, 0, u32::MAX), Err(3));
+        assert_eq!(check(2, 16, 65_537, 65_536), Err(3));
+    }
+
+    /// Every mask of small bucket counts, and those at the edges of large ones.
+    #[test]
+    fn masks() {
+        for log in 0..=16 {
+            let buckets = 1 << log;
+            let mut works = 0;
+            for mask in (0..300).chain(buckets - 1..buckets + 3).chain([u32::MAX]) {
+                let s = Settings::new(MASKED, 12, buckets, mask);
+                let former = if mask < buckets { Ok(()) } else { Err(4) };
+                assert_eq!(s.former_check(), former, "{s:?}");
+                let now = match (1..buckets - 1).contains(&mask) {
+                    true => Ok(()),
+                    false => Err(4),
+                };
+                assert_eq!(s.check(), now, "{s:?}");
+                works += u32::from(now.is_ok());
+            }
+            assert_eq!(works == 0, buckets <= 2);
+        }
+        // The other rules have nothing to do with it.
+        for (rule, buckets) in [(PLAIN, 1), (PLAIN, 2), (PLAIN, 4), (RING, 2), (RING, 6)] {
+            for mask in [0, 1, buckets - 1, buckets] {
+                let s = Settings::new(rule, 12, buckets, mask);
+                let answer = if mask == 0 { Ok(()) } else { Err(4) };
+                assert_eq!((s.check(), s.former_check()), (answer, answer), "{s:?}");
+                assert!(!s.idle_mask());
+            }
+        }
     }
 
     #[test]
     fn bucket_counts() {
-        for rule in [PLAIN, RING, MASKED] {
-            assert_eq!(check(rule, 12, 65_536, 0), Ok(()));
-            assert_eq!(check(rule, 12, 65_537, 0), Err(3));
-            assert_eq!(check(rule, 12, 65_538, 0), Err(3));
+        for (rule, mask) in [(PLAIN, 0), (RING, 0), (MASKED, 1)] {
+            assert_eq!(check(rule, 12, 65_536, mask), Ok(()));
+            assert_eq!(check(rule, 12, 65_537, mask), Err(3));
+            assert_eq!(check(rule, 12, 65_538, mask), Err(3));
         }
         assert_eq!(check(RING, 12, 6, 0), Ok(()));
         assert_eq!(check(PLAIN, 12, 6, 0), Err(3));
@@ -261,8 +316,8 @@ mod tests {
         let ring = Settings::new(RING, 16, 10, 0);
         assert_eq!(entry(ring, b"a"), Ok((0x728f, 0xaf63_dc4c % 5)));
         // 8 + 6 + 0 + 1 + 14 + 12 + 8 + 12 is 61, and 6 * 10 + 1 is 61 too.
-        let narrow = Settings::new(MASKED, 4, 1, 0);
-        assert_eq!(entry(narrow, b"a"), Ok((2, 0)));
+        let narrow = Settings::new(MASKED, 4, 16, 5);
+        assert_eq!(entry(narrow, b"a"), Ok((2, 0xc)));
     }
 
     /// Every width, with the greatest fingerprint.
@@ -599,7 +654,7 @@ mod tests {
         let mut all = vec![];
         for buckets in [1, 2, 4, 8, 16] {
             all.push(Settings::new(PLAIN, 12, buckets, 0));
-            all.extend((0..buckets).map(|m| Settings::new(MASKED, 12, buckets, m)));
+            all.extend((1..buckets - 1).map(|m| Settings::new(MASKED, 12, buckets, m)));
         }
         all.extend((1..=12).map(|l| Settings::new(RING, 12, 2 * l, 0)));
         for settings in all {
@@ -611,6 +666,40 @@ mod tests {
                         assert_eq!(set(settings, d, c), here, "{settings:?} {d} {b}");
                     }
                 }
+            }
+        }
+    }
+
+    /// The candidates with those left out that were listed before.
+    fn each_once(list: &[u32]) -> Vec<u32> {
+        let first_time = |&i: &usize| !list[..i].contains(&list[i]);
+        (0..list.len())
+            .filter(first_time)
+            .map(|i| list[i])
+            .collect()
+    }
+
+    /// Under a mask that does no work the candidates are those of the plain rule, in the same order.
+    /// Under any other mask some entry has four.
+    #[test]
+    fn idle_masks_have_plain_candidates() {
+        for log in 0..=6 {
+            let buckets = 1 << log;
+            let plain = Settings::new(PLAIN, 12, buckets, 0);
+            for mask in 0..buckets {
+                let masked = Settings::new(MASKED, 12, buckets, mask);
+                let mut most = 0;
+                for d in 0..buckets {
+                    for b in 0..buckets {
+                        let once = each_once(masked.spread(d, b).as_slice());
+                        if masked.idle_mask() {
+                            assert_eq!(once, each_once(plain.spread(d, b).as_slice()));
+                        }
+                        most = most.max(once.len());
+                    }
+                }
+                assert_eq!(masked.idle_mask(), most < 4, "{masked:?}");
+                assert_eq!(masked.idle_mask(), masked.check() == Err(4));
             }
         }
     }

@@ -5,6 +5,7 @@ pub mod branch_free;
 #[cfg(target_arch = "x86_64")]
 pub mod fast;
 pub mod fnv_strings;
+pub mod former;
 pub mod holdfile;
 pub mod index;
 pub mod model;

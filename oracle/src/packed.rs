@@ -162,6 +162,7 @@ pub(crate) fn pack<const W: usize>(table: &[u16], out: &mut [u8]) {
 
 /// Writes the packed form, and answers how many bytes it has.
 pub fn write(settings: Settings, table: &[u16], out: &mut [u8]) -> Answer<usize> {
+    check_table(settings, table)?;
     check_cells(settings, table)?;
     let out = out.get_mut(..length(settings)).ok_or(16u32)?;
     at_width!(settings.width, pack(table, out));
@@ -334,7 +335,7 @@ mod tests {
                 Settings::new(RING, width, 2, 0),
                 Settings::new(RING, width, 6, 0),
                 Settings::new(RING, width, 10, 0),
-                Settings::new(MASKED, width, 64, 63),
+                Settings::new(MASKED, width, 64, 62),
                 Settings::new(PLAIN, width, 4_096, 0),
                 Settings::new(PLAIN, width, 65_536, 0),
             ] {

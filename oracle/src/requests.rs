@@ -61,6 +61,23 @@ pub const SALTS: [u64; 9] = [
     0xd6e8_feb8_6659_fd93,
 ];
 
+/// Masks that do work for so many buckets, ascending: the least and the greatest, two in the middle
+/// of which each has the bits that the other lacks, and one between. One bucket or two have none.
+pub fn masks(buckets: u32) -> Vec<u32> {
+    let half = buckets / 2;
+    let mut all = vec![
+        1,
+        buckets / 3,
+        half.wrapping_sub(1),
+        half,
+        buckets.wrapping_sub(2),
+    ];
+    all.retain(|mask| (1..buckets - 1).contains(mask));
+    all.sort_unstable();
+    all.dedup();
+    all
+}
+
 pub fn to_hex(bytes: &[u8]) -> String {
     bytes.iter().map(|b| format!("{b:02x}")).collect()
 }

@@ -50,6 +50,12 @@ fn cells_with(table: &[u16], bucket: u32, value: u16) -> usize {
 /// one bucket.
 pub fn lookup(settings: Settings, table: &[u16], tag: &[u8]) -> Answer<u32> {
     check_table(settings, table)?;
+    lookup_unchecked(settings, table, tag)
+}
+
+/// The lookup, where settings and table are known to be good.
+#[inline]
+pub(crate) fn lookup_unchecked(settings: Settings, table: &[u16], tag: &[u8]) -> Answer<u32> {
     let (fingerprint, home) = settings.entry_unchecked(tag)?;
     let candidates = settings.candidates_unchecked(fingerprint, home);
     let list = candidates.as_slice();
@@ -63,6 +69,12 @@ pub fn lookup(settings: Settings, table: &[u16], tag: &[u8]) -> Answer<u32> {
 /// Takes one entry of the tag out. False if there is none.
 pub fn release(settings: Settings, table: &mut [u16], tag: &[u8]) -> Answer<bool> {
     check_table(settings, table)?;
+    release_unchecked(settings, table, tag)
+}
+
+/// The release, where settings and table are known to be good.
+#[inline]
+pub(crate) fn release_unchecked(settings: Settings, table: &mut [u16], tag: &[u8]) -> Answer<bool> {
     let (fingerprint, home) = settings.entry_unchecked(tag)?;
     let candidates = settings.candidates_unchecked(fingerprint, home);
     let found = first_with(table, candidates.as_slice(), fingerprint);
@@ -75,6 +87,17 @@ pub fn release(settings: Settings, table: &mut [u16], tag: &[u8]) -> Answer<bool
 /// Puts an entry for the tag in, and answers how many others moved to make room.
 pub fn hold(settings: Settings, table: &mut [u16], scratch: &mut [u32], tag: &[u8]) -> Answer<u32> {
     check_table(settings, table)?;
+    hold_unchecked(settings, table, scratch, tag)
+}
+
+/// The hold, where settings and table are known to be good.
+#[inline]
+pub(crate) fn hold_unchecked(
+    settings: Settings,
+    table: &mut [u16],
+    scratch: &mut [u32],
+    tag: &[u8],
+) -> Answer<u32> {
     let buckets = settings.buckets as usize;
     if scratch.len() < 2 * buckets {
         return Err(6);

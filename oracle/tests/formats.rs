@@ -3,7 +3,7 @@
 
 use oracle::index::{Answer, Settings, MASKED, PLAIN, RING};
 use oracle::requests::Mix;
-use oracle::{holdfile, packed};
+use oracle::{former, holdfile, packed};
 
 /// A hold file, for settings and cells that are good.
 fn file_of(s: Settings, table: &[u16]) -> Vec<u8> {
@@ -68,7 +68,9 @@ impl Bytes<'_> {
     }
 }
 
-fn settings_and_cells(bytes: &[u8], cells: usize) -> Answer<(Settings, Vec<u16>)> {
+/// What a reader makes of a file that is lent so many cells, and one that takes the former settings
+/// and is lent none.
+fn settings_and_cells(bytes: &[u8], lent: Option<usize>) -> Answer<(Settings, Vec<u16>)> {
     let mut bytes = Bytes(bytes.iter());
     let map = bytes.one()?;
     if map > 63 {
@@ -103,9 +105,14 @@ fn settings_and_cells(bytes: &[u8], cells: usize) -> Answer<(Settings, Vec<u16>)
     if bits[4] && s.salt == 0 {
         return Err(12);
     }
-    s.check()?;
-    if cells as u64 != 4 * u64::from(s.buckets) {
-        return Err(5);
+    match lent {
+        Some(cells) => {
+            s.check()?;
+            if cells as u64 != 4 * u64::from(s.buckets) {
+                return Err(5);
+            }
+        }
+        None => s.former_check()?,
     }
     let mut table = vec![];
     for _ in 0..s.buckets {
@@ -129,6 +136,22 @@ fn settings_and_cells(bytes: &[u8], cells: usize) -> Answer<(Settings, Vec<u16>)
         return Err(15);
     }
     Ok((s, table))
+}
+
+/// What a converter makes of a file that has so much room for it: the list under the plain rule.
+fn converted(bytes: &[u8], room: usize) -> Answer<Vec<u8>> {
+    let (s, table) = settings_and_cells(bytes, None)?;
+    if s.rule != 2 || s.mask != 0 && s.mask != s.buckets - 1 {
+        return Err(24);
+    }
+    let plain = Settings {
+        rule: 0,
+        mask: 0,
+        ..s
+    };
+    Some(file_of(plain, &table))
+        .filter(|file| file.len() <= room)
+        .ok_or(16)
 }
 
 fn ascending(list: &[u16]) -> bool {
@@ -211,11 +234,28 @@ fn settings(mix: &mut Mix) -> Settings {
         0 => Settings::new(PLAIN, width, 1 << mix.below(6), 0),
         1 => Settings::new(RING, width, 2 + 2 * mix.below(20), 0),
         _ => {
-            let buckets = 1 << mix.below(6);
-            Settings::new(MASKED, width, buckets, mix.below(buckets.into()))
+            let buckets = 4 << mix.below(4);
+            Settings::new(MASKED, width, buckets, working_mask(mix, buckets))
         }
     };
     s.with_salt(salt(mix))
+}
+
+/// Any mask that does work for so many buckets.
+fn working_mask(mix: &mut Mix, buckets: u32) -> u32 {
+    1 + mix.below(u64::from(buckets) - 2)
+}
+
+/// Settings whose mask does no work.
+fn former_settings(mix: &mut Mix) -> Settings {
+    let buckets = 1 << mix.below(5);
+    let mask = mix.below(2) * (buckets - 1);
+    let width = if mix.below(4) == 0 {
+        12
+    } else {
+        4 + mix.below(13)
+    };
+    Settings::new(MASKED, width, buckets, mask).with_salt(salt(mix))
 }
 
 fn cells(s: Settings, mix: &mut Mix) -> Vec<u16> {
@@ -266,7 +306,7 @@ fn files() {
         let lent = table.len() + usize::from(mix.below(50) == 0);
         let mut back = vec![0xabcd; lent];
         let answer = holdfile::read(&bytes, &mut back);
-        match settings_and_cells(&bytes, lent) {
+        match settings_and_cells(&bytes, Some(lent)) {
             Ok((s, table)) => {
                 assert_eq!(answer, Ok(s));
                 assert_eq!(back, table);
@@ -284,6 +324,51 @@ fn files() {
         assert!(seen[number] > 100, "{seen:?}");
     }
     assert!(salted > 1_000, "{salted}");
+}
+
+#[test]
+fn converted_files() {
+    let mut mix = Mix(34);
+    let mut seen = [0; 25];
+    for _ in 0..60_000 {
+        let s = match mix.below(4) {
+            0 => settings(&mut mix),
+            _ => former_settings(&mut mix),
+        };
+        let table = cells(s, &mut mix);
+        let mut bytes = file_of(s, &table);
+        let mut out = vec![0; bytes.len()];
+        assert_eq!(former::write(s, &table, &mut out), Ok(bytes.len()));
+        assert_eq!(out, bytes);
+        if mix.below(3) != 0 {
+            damage(&mut bytes, &mut mix);
+        }
+        let room = match mix.below(4) {
+            0 => mix.below(bytes.len() as u64 + 1) as usize,
+            // One too little, just enough, one too much.
+            n => (bytes.len() + n as usize).saturating_sub(5),
+        };
+        let before = mix.bytes(room);
+        let mut out = before.clone();
+        let answer = holdfile::convert(&bytes, &mut out);
+        match converted(&bytes, room) {
+            Ok(file) => {
+                assert_eq!(answer, Ok(file.len()));
+                assert_eq!(out[..file.len()], file);
+                assert_eq!(out[file.len()..], before[file.len()..]);
+                seen[0] += 1;
+            }
+            Err(number) => {
+                assert_eq!(answer, Err(number), "{bytes:?}");
+                assert_eq!(out, before);
+                seen[number as usize] += 1;
+            }
+        }
+    }
+    for number in [0, 1, 2, 3, 4, 11, 12, 13, 14, 15, 16, 23, 24] {
+        assert!(seen[number] > 20, "{seen:?}");
+    }
+    assert_eq!(seen[5], 0);
 }
 
 #[test]
@@ -351,7 +436,7 @@ fn packed_forms_have_no_salt() {
 /// The fast and the branch-free forms held to the plain ones: every answer, and everything that was lent.
 #[cfg(target_arch = "x86_64")]
 mod fast_forms {
-    use super::{cells, rows, salt, settings};
+    use super::{cells, rows, salt, settings, working_mask};
     use oracle::fast;
     use oracle::index::{Answer, Settings, MASKED, PLAIN, RING};
     use oracle::requests::Mix;
@@ -483,6 +568,7 @@ mod fast_forms {
             file_read(&file, lent.len(), file_in);
             packed_read(s, &form, lent.len(), packed_in);
         }
+        let masked = Settings { rule: MASKED, ..s };
         for bad in [
             Settings { rule: 3, ..s },
             Settings { width: 17, ..s },
@@ -491,6 +577,11 @@ mod fast_forms {
                 mask: s.buckets,
                 ..s
             },
+            Settings {
+                mask: s.buckets - 1,
+                ..masked
+            },
+            Settings { mask: 0, ..masked },
         ] {
             file_write(bad, table, &most, file_out);
             packed_write(bad, table, &most, packed_out);
@@ -548,7 +639,7 @@ mod fast_forms {
             for s in [
                 Settings::new(PLAIN, width, 4_096, 0),
                 Settings::new(RING, width, 1_022 + 2 * mix.below(2_000), 0),
-                Settings::new(MASKED, width, 2_048, mix.below(2_048)),
+                Settings::new(MASKED, width, 2_048, working_mask(&mut mix, 2_048)),
             ] {
                 let s = s.with_salt(salt(&mut mix));
                 // From a table that is full, or nearly so, to an empty one, in which a part of the

@@ -2,7 +2,7 @@
 
 use oracle::index::{self, Answer, Settings, MASKED, PLAIN, RING};
 use oracle::model::{Class, Model};
-use oracle::requests::Mix;
+use oracle::requests::{masks, Mix};
 use oracle::table::{clear, hold, lookup, release, view, view_check};
 use std::collections::{HashSet, VecDeque};
 
@@ -179,15 +179,8 @@ fn small_settings() -> Vec<Settings> {
     for width in [4, 12, 16] {
         for buckets in [1, 2, 4, 8, 16, 32] {
             all.push(Settings::new(PLAIN, width, buckets, 0));
-            let mut masks = vec![0, 1, buckets / 2, buckets / 3, buckets - 1];
-            masks.retain(|&mask| mask < buckets);
-            masks.sort_unstable();
-            masks.dedup();
-            all.extend(
-                masks
-                    .iter()
-                    .map(|&m| Settings::new(MASKED, width, buckets, m)),
-            );
+            let masked = |mask| Settings::new(MASKED, width, buckets, mask);
+            all.extend(masks(buckets).into_iter().map(masked));
         }
         for buckets in [2, 4, 6, 8, 10, 14, 16, 22] {
             all.push(Settings::new(RING, width, buckets, 0));
@@ -346,7 +339,12 @@ fn refusals_in_order() {
         (Settings::new(3, 17, 7, 9), 3, 1, 0, 99, 1),
         (Settings::new(MASKED, 17, 7, 9), 3, 1, 0, 99, 2),
         (Settings::new(MASKED, 12, 7, 9), 3, 1, 0, 99, 3),
+        (Settings::new(MASKED, 12, 7, 6), 3, 1, 0, 99, 3),
         (Settings::new(MASKED, 12, 8, 9), 3, 1, 0, 99, 4),
+        (Settings::new(MASKED, 12, 8, 0), 3, 1, 0, 99, 4),
+        (Settings::new(MASKED, 12, 8, 7), 32, 16, 1, 0, 4),
+        (Settings::new(MASKED, 12, 2, 1), 8, 4, 1, 0, 4),
+        (Settings::new(MASKED, 12, 1, 0), 4, 2, 1, 0, 4),
         (good, 31, 1, 0, 99, 5),
         (good, 33, 15, 65, 8, 5),
         (good, 0, 15, 65, 8, 5),

@@ -262,6 +262,34 @@ impl HoldList {
         Ok(HoldList::of(settings, table, entries))
     }
 
+    /// A hold file of rule 2 whose mask is 0 or the number of buckets less 1, made one of rule 0: the same
+    /// list, with the same width, number of buckets, salt and cells. Since version 0.6 nothing else takes
+    /// such a file. On the converted list every tag is looked up, held and released as it was.
+    ///
+    /// ```
+    /// use holdlist::{HoldList, Refusal, Settings};
+    ///
+    /// // rule 2, width 4, one bucket, mask 0
+    /// let earlier = [0x2f, 2, 4, 0, 0, 0, 0, 0x0a, 9, 0, 3, 0];
+    /// assert_eq!(HoldList::load(&earlier), Err(Refusal::Mask));
+    /// let file = HoldList::convert(&earlier)?;
+    /// assert_eq!(file, [0x26, 4, 0, 0, 0x0a, 9, 0, 3, 0]);
+    /// assert_eq!(HoldList::load(&file)?.settings(), Settings::plain(4, 1));
+    /// // once is enough
+    /// assert_eq!(HoldList::convert(&file), Err(Refusal::NoConversion));
+    /// # Ok::<(), Refusal>(())
+    /// ```
+    ///
+    /// # Errors
+    /// As [`HoldList::load`], but that those masks pass; then [`Refusal::NoConversion`].
+    pub fn convert(bytes: &[u8]) -> Result<Vec<u8>, Refusal> {
+        // the rule and the mask are left out
+        let mut out = vec![0; bytes.len()];
+        let count = raw::file_convert(bytes, &mut out)?;
+        out.truncate(count);
+        Ok(out)
+    }
+
     /// The list in its packed form, which leaves out the settings, the salt among them, and the order
     /// within a bucket. Nor does it tell of which version its fingerprints are: one that was made
     /// before version 0.5 is of the earlier ones, and nothing refuses it.

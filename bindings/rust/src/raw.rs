@@ -80,6 +80,12 @@ mod c {
             table_count: usize,
             settings: *mut Settings,
         ) -> i64;
+        pub fn holdlist_file_convert(
+            bytes: *const u8,
+            bytes_count: usize,
+            out: *mut u8,
+            out_count: usize,
+        ) -> i64;
         pub fn holdlist_packed_write(
             settings: *const Settings,
             table: *const u16,
@@ -235,6 +241,13 @@ pub fn file_read(bytes: &[u8], table: &mut [u16]) -> Result<Settings, Refusal> {
         )
     })?;
     Ok(settings)
+}
+
+pub fn file_convert(bytes: &[u8], out: &mut [u8]) -> Result<usize, Refusal> {
+    // SAFETY: as the module says
+    told(unsafe {
+        c::holdlist_file_convert(bytes.as_ptr(), bytes.len(), out.as_mut_ptr(), out.len())
+    })
 }
 
 pub fn packed_write(s: &Settings, table: &[u16], out: &mut [u8]) -> Result<usize, Refusal> {
@@ -457,6 +470,7 @@ mod tests {
                 -11
             );
             assert_eq!(c::holdlist_file_settings(null(), 0, &mut settings), -11);
+            assert_eq!(c::holdlist_file_convert(null(), 0, null_mut(), 0), -11);
             assert_eq!(
                 c::holdlist_packed_write(&eight, null(), 0, null_mut(), 0),
                 -5

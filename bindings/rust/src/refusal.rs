@@ -19,7 +19,7 @@ pub enum Refusal {
     Width = 2,
     /// 3: the bucket count is 0 or above 65,536, or does not fit the rule.
     Buckets = 3,
-    /// 4: the mask does not fit the rule or the bucket count.
+    /// 4: the mask does not fit the rule or the bucket count, or splits no offset.
     Mask = 4,
     /// 5: the table does not have four cells for each bucket.
     Table = 5,
@@ -54,11 +54,13 @@ pub enum Refusal {
     /// 23: the hold file has fingerprints of an earlier kind. The list is to be filled anew from the
     /// register.
     OldFingerprints = 23,
+    /// 24: the hold file is sound, and its rule or its mask needs no conversion.
+    NoConversion = 24,
 }
 
 impl Refusal {
     /// Every refusal, by its number.
-    pub const ALL: [Refusal; 20] = [
+    pub const ALL: [Refusal; 21] = [
         Refusal::Rule,
         Refusal::Width,
         Refusal::Buckets,
@@ -79,9 +81,10 @@ impl Refusal {
         Refusal::Order,
         Refusal::Filling,
         Refusal::OldFingerprints,
+        Refusal::NoConversion,
     ];
 
-    /// The number, 1 to 9, 11 to 20 or 23.
+    /// The number, 1 to 9, 11 to 20, 23 or 24.
     pub const fn number(self) -> u8 {
         self as u8
     }
@@ -106,7 +109,9 @@ impl Refusal {
             Refusal::Buckets => {
                 "the bucket count is 0 or above 65536, no power of two under rule 0 or 2, or odd under rule 1"
             }
-            Refusal::Mask => "the mask is not below the bucket count under rule 2, or not 0 under rule 0 or 1",
+            Refusal::Mask => {
+                "the mask is not from 1 to the bucket count less 2 under rule 2, or not 0 under rule 0 or 1"
+            }
             Refusal::Table => "the table does not have four cells for each bucket",
             Refusal::Scratch => "scratch has fewer than two numbers for each bucket",
             Refusal::Tag => "the tag has no byte or more than 64",
@@ -126,6 +131,9 @@ impl Refusal {
             Refusal::Filling => "a filling bit is set",
             Refusal::OldFingerprints => {
                 "the file has fingerprints of an earlier kind: fill the list anew from the register"
+            }
+            Refusal::NoConversion => {
+                "the file needs no conversion: it is sound and of another rule or mask"
             }
         }
     }

@@ -10,7 +10,8 @@ use crate::{raw, Refusal};
 /// assert_eq!(Settings::default(), default);
 /// assert_eq!(Settings::ring(12, 6).check(), Ok(()));
 /// assert_eq!(Settings::plain(12, 6).check(), Err(Refusal::Buckets));
-/// assert_eq!(Settings::masked(12, 16, 16).check(), Err(Refusal::Mask));
+/// assert_eq!(Settings::masked(12, 16, 14).check(), Ok(()));
+/// assert_eq!(Settings::masked(12, 16, 15).check(), Err(Refusal::Mask));
 /// ```
 #[derive(Clone, Copy, Debug, PartialEq, Eq, Hash)]
 #[repr(C)]
@@ -21,7 +22,7 @@ pub struct Settings {
     pub width: u32,
     /// The number of buckets, 1 to 65,536: a power of two under rules 0 and 2, even under rule 1.
     pub buckets: u32,
-    /// Below the number of buckets under rule 2, and 0 under the others.
+    /// 1 to the number of buckets less 2 under rule 2, and 0 under the others.
     pub mask: u32,
     /// Any number: see [`Settings::with_salt`].
     pub salt: u64,
@@ -56,7 +57,11 @@ impl Settings {
         }
     }
 
-    /// The masked rule: four candidates for each entry, and a power of two buckets.
+    /// The masked rule: four candidates for each entry, and a power of two buckets, at least four.
+    ///
+    /// The mask splits the offset of a fingerprint: one candidate lies the bits in the mask apart, one
+    /// the bits outside it, one both. A mask of no bit or of every bit would split none, and the four
+    /// candidates would be the plain rule's two; it is refused.
     pub const fn masked(width: u32, buckets: u32, mask: u32) -> Settings {
         Settings {
             rule: 2,

@@ -42,7 +42,7 @@ const SALTS: [u64; 5] = [1, 2_027, 1 << 32, 1 << 63, u64::MAX];
 #[test]
 fn every_refusal_has_its_number_and_says_what_it_means() {
     let numbers: Vec<u8> = Refusal::ALL.iter().map(|r| r.number()).collect();
-    let all: Vec<u8> = (1..=9).chain(11..=20).chain([23]).collect();
+    let all: Vec<u8> = (1..=9).chain(11..=20).chain([23, 24]).collect();
     assert_eq!(numbers, all);
     for refusal in Refusal::ALL {
         assert_eq!(Refusal::from_number(refusal.number()), Some(refusal));
@@ -53,7 +53,7 @@ fn every_refusal_has_its_number_and_says_what_it_means() {
         );
         assert!(refusal.meaning().len() > 10);
     }
-    for number in [0, 10, 21, 22, 24, 255] {
+    for number in [0, 10, 21, 22, 25, 255] {
         assert_eq!(Refusal::from_number(number), None);
     }
     let error: Box<dyn std::error::Error> = Box::new(Refusal::Tag);
@@ -102,6 +102,12 @@ fn settings_are_refused_with_1_to_4_in_this_order() {
         (settings(0, 12, 8, 1), Refusal::Mask),
         (settings(1, 12, 6, 1), Refusal::Mask),
         (settings(2, 12, 8, 8), Refusal::Mask),
+        // masks of no bit and of every bit, and counts that have no other
+        (settings(2, 12, 8, 0), Refusal::Mask),
+        (settings(2, 12, 8, 7), Refusal::Mask),
+        (settings(2, 12, 1, 0), Refusal::Mask),
+        (settings(2, 12, 2, 0), Refusal::Mask),
+        (settings(2, 12, 2, 1), Refusal::Mask),
     ];
     for (s, refusal) in cases {
         assert_eq!(s.check(), Err(refusal), "{s:?}");
@@ -119,8 +125,8 @@ fn settings_are_refused_with_1_to_4_in_this_order() {
         (0, 16, 65_536, 0),
         (1, 12, 2, 0),
         (1, 12, 6, 0),
-        (2, 12, 1, 0),
-        (2, 12, 16, 15),
+        (2, 12, 4, 1),
+        (2, 12, 16, 14),
     ];
     for (rule, width, buckets, mask) in good {
         let s = settings(rule, width, buckets, mask);
@@ -193,7 +199,7 @@ fn a_full_list_is_refused_with_9_and_stays() {
 #[test]
 fn a_damaged_hold_file_is_refused_with_its_number() {
     use Refusal::*;
-    let cases: [(&[u8], Refusal); 35] = [
+    let cases: [(&[u8], Refusal); 37] = [
         (&[], Short),
         (&[0x40], Map), // a map bit above 5
         (&[0x46, 4, 0, 0, 0], Map),
@@ -223,9 +229,11 @@ fn a_damaged_hold_file_is_refused_with_its_number() {
         (&[0x26, 4, 2, 0, 0, 0, 0], Buckets), // three
         (&[0x27, 1, 4, 2, 0, 0, 0, 0], Buckets),
         (&[0x2f, 2, 4, 0, 0, 1, 0, 0], Mask),
-        (&[0x26, 4, 0, 0], Short),          // the bucket's byte
-        (&[0x26, 4, 0, 0, 0x01, 9], Short), // half a fingerprint
-        (&[0x26, 4, 1, 0, 0x00], Short),    // the second bucket
+        (&[0x2f, 2, 4, 3, 0, 0, 0, 0], Mask), // no bit
+        (&[0x2f, 2, 4, 3, 0, 3, 0, 0], Mask), // every bit
+        (&[0x26, 4, 0, 0], Short),            // the bucket's byte
+        (&[0x26, 4, 0, 0, 0x01, 9], Short),   // half a fingerprint
+        (&[0x26, 4, 1, 0, 0x00], Short),      // the second bucket
         (&[0x26, 4, 0, 0, 0x10], BucketByte),
         (&[0x26, 4, 0, 0, 0x01, 0, 0], Fingerprint),
         (&[0x26, 4, 0, 0, 0x01, 16, 0], Fingerprint),
@@ -234,13 +242,60 @@ fn a_damaged_hold_file_is_refused_with_its_number() {
     for (bytes, refusal) in cases {
         assert_eq!(HoldList::load(bytes), Err(refusal), "{bytes:02x?}");
     }
-    // the first twenty-eight by the header, which the others pass
+    // the first thirty by the header, which the others pass
     for (i, (bytes, refusal)) in cases.into_iter().enumerate() {
         match Settings::of_file(bytes) {
-            Ok(s) => assert!(i >= 28 && s.check() == Ok(()), "{bytes:02x?}"),
-            Err(r) => assert!(i < 28 && r == refusal, "{bytes:02x?}"),
+            Ok(s) => assert!(i >= 30 && s.check() == Ok(()), "{bytes:02x?}"),
+            Err(r) => assert!(i < 30 && r == refusal, "{bytes:02x?}"),
         }
     }
+}
+
+/// The file of a list of rule 0 as it was under rule 2 with a mask: bits 0 and 3 of the map, the rule
+/// before the other fields, and the mask before the salt.
+fn under_mask(list: &HoldList, mask: u32) -> Vec<u8> {
+    let file = list.save();
+    let named = |bit: u8, bytes| usize::from(file[0] & bit != 0) * bytes;
+    let salt = 1 + named(2, 1) + named(4, 2);
+    let (head, rest) = file[1..].split_at(salt - 1);
+    [&[file[0] | 9, 2], head, &(mask as u16).to_le_bytes(), rest].concat()
+}
+
+#[test]
+fn a_file_of_a_mask_that_splits_nothing_is_converted() {
+    let all = [
+        Settings::default(),
+        Settings::default().with_salt(7),
+        Settings::plain(4, 1),
+        Settings::plain(12, 2).with_salt(u64::MAX),
+        Settings::plain(9, 64),
+    ];
+    for s in all {
+        let list = list_of(s, s.buckets as usize);
+        for mask in [0, s.buckets - 1] {
+            let earlier = under_mask(&list, mask);
+            assert_eq!(HoldList::load(&earlier), Err(Refusal::Mask), "{s:?}");
+            let file = HoldList::convert(&earlier).unwrap();
+            assert_eq!(file, list.save(), "{s:?}");
+            assert_eq!(file.len() + 3, earlier.len());
+            assert_eq!(HoldList::load(&file).as_ref(), Ok(&list));
+            // bytes that are left over come before all else that is asked of it, and so does a cut
+            let longer = [&earlier[..], &[0]].concat();
+            assert_eq!(HoldList::convert(&longer), Err(Refusal::LeftOver));
+            let shorter = &earlier[..earlier.len() - 1];
+            assert_eq!(HoldList::convert(shorter), Err(Refusal::Short));
+        }
+        assert_eq!(HoldList::convert(&list.save()), Err(Refusal::NoConversion));
+    }
+    // a mask that splits offsets, and the ring; left over first
+    for s in [Settings::masked(9, 64, 62), Settings::ring(12, 6)] {
+        let file = list_of(s, 6).save();
+        assert_eq!(HoldList::convert(&file), Err(Refusal::NoConversion));
+        let longer = [&file[..], &[0]].concat();
+        assert_eq!(HoldList::convert(&longer), Err(Refusal::LeftOver));
+    }
+    assert_eq!(HoldList::convert(&[]), Err(Refusal::Short));
+    assert_eq!(HoldList::convert(&[0x0f]), Err(Refusal::OldFingerprints));
 }
 
 #[test]
@@ -342,8 +397,8 @@ fn a_saved_list_is_read_back() {
         Settings::ring(12, 10),
         Settings::ring(5, 4096),
         Settings::masked(9, 32, 21),
-        Settings::masked(12, 4096, 0),
-        Settings::masked(12, 4096, 4095),
+        Settings::masked(12, 4096, 1),
+        Settings::masked(12, 4096, 4094),
         Settings::default().with_salt(1),
         Settings::ring(5, 10).with_salt(u64::MAX),
         Settings::masked(9, 32, 21).with_salt(0x0123_4567_89ab_cdef),

@@ -14,3 +14,4 @@ pub mod Demand
 pub mod Laws
 pub mod Interrupted
 pub mod Writers
+pub mod Repeats

@@ -30,8 +30,11 @@ abbrev pub Result : Type 0
 Result = Outcome Said (List ℕ)
 
 -- the rows of the places "settings" and "table", which every call checks first, and that of the place "scratch"
+abbrev pub sizeChecks : Settings → List ℕ → List Check
+sizeChecks s c = check 5 (not (eqb (length c) (4 * s .buckets))) ∷ []
+
 unfoldable pub tableChecks : Settings → List ℕ → List Check
-tableChecks s c = settingsChecks s ++ (check 5 (not (eqb (length c) (4 * s .buckets))) ∷ [])
+tableChecks s c = settingsChecks s ++ sizeChecks s c
 
 unfoldable pub scratchChecks : Settings → ℕ → List Check
 scratchChecks s n = check 6 (ltb n (2 * s .buckets)) ∷ []

@@ -12,3 +12,4 @@ pub mod CheckOrder
 pub mod Interrupted
 pub mod WrittenForms
 pub mod Laws
+pub mod Repeats

@@ -84,6 +84,7 @@ keywords =
     ∷ keyword "load" (Asks.Text Command.Load Expected.File)
     ∷ keyword "pack" (Asks.Text Command.Pack Expected.File)
     ∷ keyword "unpack" (Asks.Text Command.Unpack Expected.File)
+    ∷ keyword "convert" (Asks.Files Command.Convert)
     ∷ keyword "view" Asks.View
     ∷ keyword "settings" Asks.Settings
     ∷ keyword "clear" (Asks.Nothing Command.Clear)
@@ -99,6 +100,7 @@ asksOf n (k ∷ ks) = cond (same n (k .name)) (k .asks) (asksOf n ks)
 -- and with what stands after it
 abbrev pub asked : Asks → List ℕ → Command
 asked (Asks.Text c e) rest = withText c e rest
+asked (Asks.Files c) rest = withText c Expected.Files (afterWord rest)
 asked (Asks.Nothing c) rest = alone c Expected.Nothing rest
 asked Asks.View rest = viewLine rest
 asked Asks.Settings rest = settingsLine rest
@@ -118,3 +120,10 @@ commandOf line = commandIn (trim line)
 -- the tag or the file's name that a line has
 unfoldable pub argumentOf : List ℕ → List ℕ
 argumentOf line = afterWord (trim line)
+
+-- of two names the first is a word, and the second all that follows, blanks within it too
+unfoldable pub firstNameOf : List ℕ → List ℕ
+firstNameOf line = word (argumentOf line)
+
+unfoldable pub secondNameOf : List ℕ → List ℕ
+secondNameOf line = afterWord (argumentOf line)

@@ -9,12 +9,15 @@ pub use counts::permille;
 pub use options::option;
 pub use options::without_mark;
 pub use words::argument;
+pub use words::first_name;
 pub use words::parse;
+pub use words::second_name;
 
 // What a command takes, or one of the numbers that it takes.
 pub enum Expected {
     Tag,
     File,
+    Files,
     Nothing,
     Bucket,
     Settings,
@@ -25,7 +28,7 @@ pub enum Expected {
     Salt,
 }
 
-// What a line asks for, or what is wrong with it. A tag or the name of a file is the line's argument.
+// What a line asks for, or what is wrong with it. A tag or the name of a file is the line's argument; of two names the first is a word.
 pub enum Command {
     Nothing,
     Settings(u32, u32, u32, u32, u64),
@@ -40,6 +43,7 @@ pub enum Command {
     Load,
     Pack,
     Unpack,
+    Convert,
     Stats,
     Help,
     // there is no such command
@@ -72,10 +76,11 @@ enum Decimal {
     None,
 }
 
-// What a name asks for: nothing that there is, a command with a text or with nothing after it, or one that takes numbers.
+// What a name asks for: nothing that there is, a command with a text, two names or nothing after it, or one that takes numbers.
 enum Asks {
     Unknown,
     Text(Command, Expected),
+    Files(Command),
     Nothing(Command),
     View,
     Settings,

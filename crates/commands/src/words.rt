@@ -5,7 +5,7 @@ ghost use lib.ListN.{length, take};
 ghost use Rattle.commands.specs.Words.{blank as blankOf, front as frontOf, skipBlanks, trimEnd, trim, word as wordOf, afterWord, same as sameOf};
 ghost use Rattle.digits.specs.Numbers.{typedIs};
 ghost use Rattle.commands.specs.Internal.{numberIs};
-ghost use Rattle.commands.specs.Commands.{withText, alone as aloneOf, lastWord, keywords, asksOf, named as namedOf, commandOf, argumentOf};
+ghost use Rattle.commands.specs.Commands.{withText, alone as aloneOf, lastWord, keywords, asksOf, named as namedOf, commandOf, argumentOf, firstNameOf, secondNameOf};
 ghost use Rattle.commands.specs.Commands.{firstNumber, firstSalt, viewCommand, viewLine, settingsCommand, settingsNumbers, settingsLine};
 use super::Asks;
 use super::Command;
@@ -226,10 +226,10 @@ fn settings_line(rest: &[u8]) -> Command
 }
 
 // The keywords: their names, and what each asks for, in the same order.
-const NAMES: [u8; 72] =
-    *b"hold release lookup save load pack unpack view settings clear stats help";
+const NAMES: [u8; 80] =
+    *b"hold release lookup save load pack unpack convert view settings clear stats help";
 
-const KEYWORDS: usize = 12;
+const KEYWORDS: usize = 13;
 
 const ASKS: [Asks; KEYWORDS] = [
     Asks::Text(Command::Hold, Expected::Tag),
@@ -239,6 +239,7 @@ const ASKS: [Asks; KEYWORDS] = [
     Asks::Text(Command::Load, Expected::File),
     Asks::Text(Command::Pack, Expected::File),
     Asks::Text(Command::Unpack, Expected::File),
+    Asks::Files(Command::Convert),
     Asks::View,
     Asks::Settings,
     Asks::Nothing(Command::Clear),
@@ -270,6 +271,7 @@ fn named(name: &[u8], rest: &[u8]) -> Command
 {
     match keyword(name) {
         Asks::Text(c, e) => with_text(c, e, rest),
+        Asks::Files(c) => with_text(c, Expected::Files, after_word(rest)),
         Asks::Nothing(c) => alone(c, Expected::Nothing, rest),
         Asks::View => view_line(rest),
         Asks::Settings => settings_line(rest),
@@ -296,4 +298,18 @@ pub fn argument(line: &[u8]) -> &[u8]
     ensures { λ r. ⌜ now r ≡ argumentOf (now (line .entry)) ⌝ }
 {
     after_word(trimmed(line))
+}
+
+// The first of a line's two names, a word.
+pub fn first_name(line: &[u8]) -> &[u8]
+    ensures { λ r. ⌜ now r ≡ firstNameOf (now (line .entry)) ⌝ }
+{
+    word(argument(line))
+}
+
+// The second, which is all that follows.
+pub fn second_name(line: &[u8]) -> &[u8]
+    ensures { λ r. ⌜ now r ≡ secondNameOf (now (line .entry)) ⌝ }
+{
+    after_word(argument(line))
 }

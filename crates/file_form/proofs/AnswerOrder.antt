@@ -2,7 +2,7 @@
 -- Assumes nothing.
 use mathlib.Core.Path.{_≡_, refl, ap, _∙_}
 use mathlib.Core.Bool.{Bool, true, false, cond, not, _||_}
-use mathlib.Core.Option.{Option, some}
+use mathlib.Core.Option.{Option, none, some}
 use mathlib.Core.List.{List, [], _∷_, _++_}
 use Prim.Native.Nat.{ℕ, zero, suc, _+_, _*_, _/_, _^_, _≤_, _<_}
 use native.Mathlib.Decide.{decLe}
@@ -11,18 +11,18 @@ use borrow.Author.Tests.{le-leb, lt-leb}
 use lib.Dec.{eqb, leb}
 use lib.ListN.{length, take, drop, length-drop}
 use Rattle.lemmas.specs.Bytes.{numberFrom}
-use Rattle.refusals.specs.Checks.{firstMet}
+use Rattle.refusals.specs.Checks.{Check, firstMet}
 use Rattle.refusals.specs.Outcomes.{refused, Done}
 use Rattle.refusals.proofs.Cursor.{start, met, passed}
 use Rattle.index.specs.declared.Settings.{Settings}
-use Rattle.calls.specs.Calls.{tableChecks, Sound}
+use Rattle.calls.specs.Calls.{tableChecks}
 use Rattle.calls.proofs.Laws.{table-check-laws}
 use Rattle.file_form.specs.Bytes.{bit0, bit1, bit2, bit3}
 use Rattle.file_form.specs.Parsed.{Parsed, stop, next, andThen, refuseIf, checked}
 use Rattle.file_form.specs.Fields.{bit, anyOf, takeNumber, field, takeFields}
 use Rattle.file_form.specs.Header.{sizes, settingsFrom, defaults, mapChecks, misfits, misfit}
-use Rattle.file_form.specs.Reader.{fitting, readFields, afterMap, readHeader, readCell, readCells, readBucket, readBuckets, afterBuckets, afterHeader, readAll, readFile}
-use Rattle.file_form.specs.AnswerOrder.{fieldsLength, AnswerOrder}
+use Rattle.file_form.specs.Reader.{fitting, readFields, afterMap, readHeader, readCell, readCells, readBucket, readBuckets, afterBuckets, afterHeader, readAll, into, readFile}
+use Rattle.file_form.specs.AnswerOrder.{fieldsLength, ReadOrder, AnswerOrder}
 use Rattle.file_form.proofs.Parses.{onward, split, same-next}
 use Rattle.file_form.proofs.Maps.{map-passes}
 
@@ -30,13 +30,9 @@ use Rattle.file_form.proofs.Maps.{map-passes}
 stopped : {A B : Type 0} (p : Parsed A) (f : A → List ℕ → Parsed B) (n : ℕ) → p ≡ stop n → andThen p f ≡ stop n
 stopped p f n e = ap (λ (q : Parsed _). andThen q f) e
 
-told : (bytes c : List ℕ) (n : ℕ) → readAll bytes c ≡ stop n → readFile bytes c .answer ≡ refused n
+told : (bytes c : List ℕ) (n : ℕ) → readAll (into c) bytes ≡ stop n → readFile bytes c .answer ≡ refused n
 unfolding readFile
 told bytes c n e = rw e refl
-
-by-header : (bytes c : List ℕ) (n : ℕ) → readHeader bytes ≡ stop n → readFile bytes c .answer ≡ refused n
-unfolding readAll
-by-header bytes c n e = told bytes c n (stopped (readHeader bytes) (afterHeader c) n e)
 
 -- ── the header ──
 no-byte : readHeader [] ≡ stop 11
@@ -156,28 +152,38 @@ behind w (suc k) (suc m) l cells at n h e b =
     onward (readBucket w l) _ (s1 .value) (s1 .rest) (s1 .first) ∙ stopped (readBuckets w m (s1 .rest)) (λ cs r. next (s1 .value ++ cs) r) n more
 
 -- ── behind a header that is sound ──
-module _ (bytes c rest : List ℕ) (s : Settings) (head : readHeader bytes ≡ next s rest) where
+module _ (checks : Settings → List Check) (bytes rest : List ℕ) (s : Settings) (head : readHeader bytes ≡ next s rest) where
   abbrev body : Parsed (Done Settings (List ℕ))
   body = andThen (readBuckets (s .width) (s .buckets) rest) (afterBuckets s)
 
-  goes-on : readAll bytes c ≡ checked (firstMet (tableChecks s c)) body
+  goes-on : (o : Option ℕ) → firstMet (checks s) ≡ o → readAll checks bytes ≡ checked o body
   unfolding readAll afterHeader
-  goes-on = onward (readHeader bytes) (afterHeader c) s rest head
+  goes-on o e = onward (readHeader bytes) (afterHeader checks) s rest head ∙ ap (λ (x : Option ℕ). checked x body) e
 
-  by-check : (n : ℕ) → firstMet (tableChecks s c) ≡ some n → readFile bytes c .answer ≡ refused n
-  by-check n e = told bytes c n (goes-on ∙ ap (λ (o : Option ℕ). checked o body) e)
-
-  module _ (S : Sound s c) where
-    to-body : readAll bytes c ≡ body
-    to-body = goes-on ∙ ap (λ (o : Option ℕ). checked o body) (table-check-laws s c .passes S)
-
-    by-bucket : (cells at : List ℕ) (k n : ℕ) → k < s .buckets → readBuckets (s .width) k rest ≡ next cells at → readBucket (s .width) at ≡ stop n → readFile bytes c .answer ≡ refused n
+  module _ (passes : firstMet (checks s) ≡ none) where
+    by-bucket : (cells at : List ℕ) (k n : ℕ) → k < s .buckets → readBuckets (s .width) k rest ≡ next cells at → readBucket (s .width) at ≡ stop n → readAll checks bytes ≡ stop n
     by-bucket cells at k n h e b =
-        told bytes c n (to-body ∙ stopped (readBuckets (s .width) (s .buckets) rest) (afterBuckets s) n (behind (s .width) k (s .buckets) rest cells at n h e b))
+        goes-on none passes ∙ stopped (readBuckets (s .width) (s .buckets) rest) (afterBuckets s) n (behind (s .width) k (s .buckets) rest cells at n h e b)
 
-    by-more : (cells more : List ℕ) (b : ℕ) → readBuckets (s .width) (s .buckets) rest ≡ next cells (b ∷ more) → readFile bytes c .answer ≡ refused 15
+    by-more : (cells more : List ℕ) (b : ℕ) → readBuckets (s .width) (s .buckets) rest ≡ next cells (b ∷ more) → readAll checks bytes ≡ stop 15
     unfolding afterBuckets
-    by-more cells more b e = told bytes c 15 (to-body ∙ onward (readBuckets (s .width) (s .buckets) rest) (afterBuckets s) cells (b ∷ more) e)
+    by-more cells more b e = goes-on none passes ∙ onward (readBuckets (s .width) (s .buckets) rest) (afterBuckets s) cells (b ∷ more) e
+
+pub read-order : (checks : Settings → List Check) → ReadOrder checks
+unfolding readAll
+read-order checks = record {
+  header = λ bytes n e. stopped (readHeader bytes) (afterHeader checks) n e;
+  settings = λ bytes rest s n head e. goes-on checks bytes rest s head (some n) e;
+  buckets = λ bytes rest cells at s k n head p h e b. by-bucket checks bytes rest s head p cells at k n h e b;
+  left-over = λ bytes rest cells more s b head p e. by-more checks bytes rest s head p cells more b e;
+}
+
+-- the reader's checks, and a table of the right length
+by-header : (bytes c : List ℕ) (n : ℕ) → readHeader bytes ≡ stop n → readFile bytes c .answer ≡ refused n
+by-header bytes c n e = told bytes c n (read-order (into c) .header bytes n e)
+
+by-check : (bytes c rest : List ℕ) (s : Settings) (n : ℕ) → readHeader bytes ≡ next s rest → firstMet (tableChecks s c) ≡ some n → readFile bytes c .answer ≡ refused n
+by-check bytes c rest s n head e = told bytes c n (read-order (into c) .settings bytes rest s n head e)
 
 pub answer-order : AnswerOrder
 answer-order = record {
@@ -186,9 +192,9 @@ answer-order = record {
   uneven = λ m rest c h b. by-header (m ∷ rest) c 23 (uneven m rest h b);
   fields = λ m rest c h b l. by-header (m ∷ rest) c 11 (cut m rest h b l);
   misfits = λ m rest c values more h b e q. by-header (m ∷ rest) c 12 (unfit m rest h b values more e q);
-  settings = λ bytes c rest s n head e. by-check bytes c rest s head n (table-check-laws s c .by-settings n e);
-  table = λ bytes c rest s head e h. by-check bytes c rest s head 5 (table-check-laws s c .by-size e h);
-  buckets = λ bytes c rest cells at s k n head S h e b. by-bucket bytes c rest s head S cells at k n h e b;
+  settings = λ bytes c rest s n head e. by-check bytes c rest s n head (table-check-laws s c .by-settings n e);
+  table = λ bytes c rest s head e h. by-check bytes c rest s 5 head (table-check-laws s c .by-size e h);
+  buckets = λ bytes c rest cells at s k n head S h e b. told bytes c n (read-order (into c) .buckets bytes rest cells at s k n head (table-check-laws s c .passes S) h e b);
   no-marks = no-marks;
   marks = marks;
   first = λ w b n l h e. first w b n l h e;
@@ -197,5 +203,5 @@ answer-order = record {
   fourth = λ w b n v v′ v″ l r r′ r″ h e f g k. fourth w b n l h v r e v′ r′ f v″ r″ g k;
   print = print;
   cut-print = cut-print;
-  left-over = λ bytes c rest cells more s b head S e. by-more bytes c rest s head S cells more b e;
+  left-over = λ bytes c rest cells more s b head S e. told bytes c 15 (read-order (into c) .left-over bytes rest cells more s b head (table-check-laws s c .passes S) e);
 }

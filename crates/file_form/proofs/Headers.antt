@@ -11,10 +11,9 @@ use lib.Dec.{eqb}
 use lib.ListN.{length, take, getD}
 use Rattle.lemmas.specs.Bytes.{AllBytes}
 use Rattle.refusals.specs.Checks.{firstMet}
-use Rattle.index.specs.Settings.{defaultSettings, Representable, settingsRefusal}
+use Rattle.index.specs.Settings.{defaultSettings, Representable}
 use Rattle.index.specs.declared.Settings.{Settings}
 use Rattle.index.specs.Laws.{Laws}
-use Rattle.index.proofs.Laws.{laws}
 use Rattle.file_form.specs.Parsed.{next, refuseIf, checked}
 use Rattle.file_form.specs.Fields.{bit, spelled, Fit, fieldBytes, takeFields}
 use Rattle.file_form.specs.Header.{sizes, valuesOf, settingsFrom, defaults, standing, mapOf, mapChecks, misfits, misfit}
@@ -28,10 +27,7 @@ use Rattle.file_form.proofs.Fields.{bit-at, from-low, Defaulted, Absent
 absent : (x d : ℕ) → not (eqb x d) ≡ false → x ≡ d
 absent x d e = eqb-true x d (not-false (eqb x d) e)
 
-module _ (s : Settings) (good-s : settingsRefusal s ≡ none) where
-  abbrev L : Laws s
-  L = laws s good-s
-
+module _ (s : Settings) (L : Laws s) where
   -- the values of good settings fit their bytes
   fitted : Representable s → Fit sizes (valuesOf s)
   fitted fits = (omega (arith, L .rule-high), (omega (arith, L .width-high), (omega (arith, L .few-buckets), (omega (arith, L .mask-below, L .few-buckets), (omega (arith, fits .salt), tt)))))
@@ -91,23 +87,27 @@ unfolding fitting
 fitting-map m vs rest e h d = ap (λ (t : Bool). refuseIf t 12 (next (settingsFrom vs) rest)) (misfit-map m vs e h d)
 
 -- ── written, then read ──
-module _ (s : Settings) (fits : Representable s) (good-s : settingsRefusal s ≡ none) (rest : List ℕ) where
+module _ (s : Settings) (fits : Representable s) (L : Laws s) (rest : List ℕ) where
   passes : firstMet (mapChecks (mapOf s)) ≡ none
   passes = map-passes (mapOf s) (from-low (standing s)) (bit-at (take 5 (standing s)) true [])
 
   defaulted : Defaulted (mapOf s) defaults (valuesOf s)
-  defaulted = absent-defaulted (standing s) defaults (valuesOf s) (left-out s good-s)
+  defaulted = absent-defaulted (standing s) defaults (valuesOf s) (left-out s L)
 
   settled : refuseIf (not (eqb (mapOf s) (mapOf s))) 12 (next s rest) ≡ next s rest
   settled = ap (λ (t : Bool). refuseIf (not t) 12 (next s rest)) (eq-eqb (mapOf s) (mapOf s) refl)
+
+  -- the fields by themselves, and the header
+  pub fields-taken : takeFields sizes (mapOf s) defaults (fieldBytes sizes (mapOf s) (valuesOf s) ++ rest) ≡ next (valuesOf s) rest
+  fields-taken = fields-read sizes (mapOf s) defaults (valuesOf s) rest (fitted s L fits) defaulted
 
   pub header-read : readHeader (header s ++ rest) ≡ next s rest
   unfolding readHeader header afterMap readFields
   header-read =
       ap (λ (o : Option ℕ). checked o (readFields (mapOf s) (fieldBytes sizes (mapOf s) (valuesOf s) ++ rest))) passes
-      ∙ onward _ (fitting (mapOf s)) (valuesOf s) rest (fields-read sizes (mapOf s) defaults (valuesOf s) rest (fitted s good-s fits) defaulted)
-      ∙ fitting-map (mapOf s) (valuesOf s) rest passes (fitted s good-s fits) defaulted
-      ∙ ap (λ (x : Settings). refuseIf (not (eqb (mapOf s) (mapOf x))) 12 (next x rest)) (restored s good-s)
+      ∙ onward _ (fitting (mapOf s)) (valuesOf s) rest fields-taken
+      ∙ fitting-map (mapOf s) (valuesOf s) rest passes (fitted s L fits) defaulted
+      ∙ ap (λ (x : Settings). refuseIf (not (eqb (mapOf s) (mapOf x))) 12 (next x rest)) (restored s L)
       ∙ settled
 
 -- ── read, then written ──

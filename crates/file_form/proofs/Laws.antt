@@ -14,17 +14,18 @@ use Rattle.lemmas.specs.Sums.{total}
 use Rattle.lemmas.proofs.Bools.{or-false-left, or-false-right}
 use Rattle.lemmas.proofs.Bytes.{bytes-length}
 use Rattle.refusals.specs.Checks.{firstMet, Numbered}
+use Rattle.index.specs.Settings.{Representable}
 use Rattle.index.specs.declared.Settings.{Settings}
 use Rattle.calls.specs.WrittenForms.{anyFrom}
 use Rattle.file_form.specs.Parsed.{Parsed, stop, next, andThen, refuseIf}
 use Rattle.file_form.specs.Fields.{bit, spelled, Fit, partSize, fieldBytes, field, takeFields}
 use Rattle.file_form.specs.Header.{sizes, valuesOf, settingsFrom, defaults, mapOf, mapChecks}
 use Rattle.file_form.specs.Writer.{header}
-use Rattle.file_form.specs.Reader.{fitting, readFields}
+use Rattle.file_form.specs.Reader.{fitting, readFields, readHeader}
 use Rattle.file_form.specs.Laws.{HeaderLaws}
 use Rattle.file_form.proofs.Parses.{onward}
 use Rattle.file_form.proofs.Fields.{fit-length, spelled-same, FieldsBack, fields-back}
-use Rattle.file_form.proofs.Headers.{defaults-fit, fitting-map}
+use Rattle.file_form.proofs.Headers.{defaults-fit, fitting-map, fields-taken, header-back}
 
 -- ── parts of a reading ──
 pub field-stands : (t : Bool) (d : ℕ) (read : List ℕ → Parsed ℕ) (l : List ℕ) → t ≡ true → field t d read l ≡ read l
@@ -89,5 +90,8 @@ module _ (m : ℕ) (bytes vs rest : List ℕ) (all : AllBytes bytes) where
   unfolding readFields
   settled p e = onward (takeFields sizes m defaults bytes) (fitting m) vs rest e ∙ fitting-map m vs rest p (back e .fit) (back e .default)
 
+only : (bytes rest : List ℕ) (s : Settings) → AllBytes bytes → readHeader bytes ≡ next s rest → (header s ++ rest ≡ bytes) × Representable s
+only bytes rest s all e = let k = header-back bytes s rest all e in (k .back .same, k .types)
+
 pub header-laws : HeaderLaws
-header-laws = record { numbered = numbered; few = λ k. few sizes k refl; some = some; most = most; fit = fit; settled = settled }
+header-laws = record { numbered = numbered; few = λ k. few sizes k refl; some = some; most = most; only = only; taken = λ s rest L z. fields-taken s z L rest; fit = fit; settled = settled }

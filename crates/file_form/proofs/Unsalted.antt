@@ -16,7 +16,7 @@ use Rattle.file_form.specs.Parsed.{Parsed, stop, next, andThen, checked,
 use Rattle.file_form.specs.Fields.{bit, fieldBytes, takeNumber, field, takeFields}
 use Rattle.file_form.specs.Header.{sizes, valuesOf, mapOf, mapChecks, misfit}
 use Rattle.file_form.specs.Writer.{header, body, fileOf, writeFile}
-use Rattle.file_form.specs.Reader.{fitting, readFields, afterMap, readHeader, afterHeader, readAll, readFile, named, headerAnswer}
+use Rattle.file_form.specs.Reader.{fitting, readFields, afterMap, readHeader, afterHeader, readAll, into, readFile, named, headerAnswer}
 use Rattle.file_form.specs.Unsalted.{sizes4, valuesOf4, defaults4, standing4, mapOf4, mapChecks4, misfit4, header4, fileOf4, saltBit, marked, UnsaltedFiles}
 use Rattle.file_form.specs.Unsalted.{fitting4, readFields4, afterMap4, readHeader4, readFile4, headerAnswer4}
 use Rattle.file_form.proofs.Fields.{bit-under, from-low}
@@ -96,7 +96,7 @@ header-same (m ∷ rest) b = after-map m b rest
 
 reads : (bytes c : List ℕ) → saltBit bytes ≡ false → readFile (marked bytes) c ≡ readFile4 bytes c
 unfolding readFile readFile4 readAll
-reads bytes c b = ap (λ (p : Parsed Settings). keeping c (answerOf (andThen p (afterHeader c)))) (header-same bytes b)
+reads bytes c b = ap (λ (p : Parsed Settings). keeping c (answerOf (andThen p (afterHeader (into c))))) (header-same bytes b)
 
 tells : (bytes : List ℕ) → saltBit bytes ≡ false → headerAnswer (marked bytes) ≡ headerAnswer4 bytes
 unfolding headerAnswer headerAnswer4

@@ -9,6 +9,7 @@ use mathlib.Core.List.{List, [], _∷_}
 use Prim.Native.Nat.{ℕ, _+_, _*_, _/_, _^_, _≤_, _<_}
 use lib.Dec.{eqb, leb}
 use lib.ListN.{length}
+use Rattle.refusals.specs.Checks.{Check, firstMet}
 use Rattle.refusals.specs.Outcomes.{refused}
 use Rattle.index.specs.Settings.{settingsRefusal}
 use Rattle.index.specs.declared.Settings.{Settings}
@@ -17,13 +18,23 @@ use Rattle.file_form.specs.Bytes.{bit0, bit1, bit2, bit3}
 use Rattle.file_form.specs.Parsed.{stop, next}
 use Rattle.file_form.specs.Fields.{bit, anyOf, partSize, takeFields}
 use Rattle.file_form.specs.Header.{sizes, settingsFrom, defaults, misfits}
-use Rattle.file_form.specs.Reader.{readHeader, readCell, readBucket, readBuckets, readFile}
+use Rattle.file_form.specs.Reader.{readHeader, readCell, readBucket, readBuckets, readAll, readFile}
 
 -- how many bytes the fields take that are there
 abbrev pub fieldsLength : List ℕ → ℕ → ℕ
 fieldsLength [] map = 0
 fieldsLength (n ∷ sizes) map = partSize map n + fieldsLength sizes (map / 2)
 
+-- whatever checks are made of the settings, they come between header and buckets
+pub record ReadOrder (checks : Settings → List Check) : Type 0 where
+  pub header : (bytes : List ℕ) (n : ℕ) → readHeader bytes ≡ stop n → readAll checks bytes ≡ stop n
+  pub settings : (bytes rest : List ℕ) (s : Settings) (n : ℕ) → readHeader bytes ≡ next s rest → firstMet (checks s) ≡ some n → readAll checks bytes ≡ stop n
+  pub buckets : (bytes rest cells at : List ℕ) (s : Settings) (k n : ℕ) → readHeader bytes ≡ next s rest → firstMet (checks s) ≡ none → k < s .buckets
+      → readBuckets (s .width) k rest ≡ next cells at → readBucket (s .width) at ≡ stop n → readAll checks bytes ≡ stop n
+  pub left-over : (bytes rest cells more : List ℕ) (s : Settings) (b : ℕ) → readHeader bytes ≡ next s rest → firstMet (checks s) ≡ none
+      → readBuckets (s .width) (s .buckets) rest ≡ next cells (b ∷ more) → readAll checks bytes ≡ stop 15
+
+-- the reader, into any table
 pub record AnswerOrder : Type 0 where
   -- no byte at all
   pub no-byte : (c : List ℕ) → readFile [] c .answer ≡ refused 11

@@ -4,7 +4,7 @@ use mathlib.Core.Bool.{Bool, true, false, _||_}
 use mathlib.Core.List.{List, [], _∷_, _++_}
 use Prim.Native.Nat.{ℕ, zero, suc, _+_, _*_, _^_}
 use lib.Dec.{eqb, leb}
-use Rattle.refusals.specs.Checks.{firstMet}
+use Rattle.refusals.specs.Checks.{Check, firstMet}
 use Rattle.refusals.specs.Outcomes.{Answer, refused, given, unless, Done, done, Outcome, keeping}
 use Rattle.index.specs.Settings.{settingsRefusal}
 use Rattle.index.specs.declared.Settings.{Settings}
@@ -71,17 +71,21 @@ leftOver (b ∷ l) = true
 unfoldable pub afterBuckets : Settings → List ℕ → List ℕ → Parsed (Done Settings (List ℕ))
 afterBuckets s cells end = refuseIf (leftOver end) 15 (next (done s cells) end)
 
--- what is left to read behind the header
-unfoldable pub afterHeader : List ℕ → Settings → List ℕ → Parsed (Done Settings (List ℕ))
-afterHeader c s rest = checked (firstMet (tableChecks s c)) (andThen (readBuckets (s .width) (s .buckets) rest) (afterBuckets s))
+-- what is left to read behind the header: the settings that it names pass the checks that are made of them
+unfoldable pub afterHeader : (Settings → List Check) → Settings → List ℕ → Parsed (Done Settings (List ℕ))
+afterHeader checks s rest = checked (firstMet (checks s)) (andThen (readBuckets (s .width) (s .buckets) rest) (afterBuckets s))
 
--- a file's settings and cells: header, settings, table, buckets, and nothing after them
-unfoldable pub readAll : List ℕ → List ℕ → Parsed (Done Settings (List ℕ))
-readAll bytes c = andThen (readHeader bytes) (afterHeader c)
+-- a file's settings and cells, whatever checks are made of the settings: header, those checks, buckets, and nothing after them
+unfoldable pub readAll : (Settings → List Check) → List ℕ → Parsed (Done Settings (List ℕ))
+readAll checks bytes = andThen (readHeader bytes) (afterHeader checks)
+
+-- the reader's: the settings pass, and a table is lent that they fit
+abbrev pub into : List ℕ → Settings → List Check
+into c s = tableChecks s c
 
 -- the cells are written only where the whole file has passed
 unfoldable pub readFile : List ℕ → List ℕ → Outcome Settings (List ℕ)
-readFile bytes c = keeping c (answerOf (readAll bytes c))
+readFile bytes c = keeping c (answerOf (readAll (into c) bytes))
 
 -- ── the header alone ──
 -- the settings that were read of it, where they pass their checks

@@ -3,17 +3,35 @@
 use mathlib.Core.Path.{_≡_}
 use mathlib.Core.Bool.{false}
 use mathlib.Core.Option.{none}
-use mathlib.Core.List.{List, _++_}
+use mathlib.Core.List.{List, [], _++_}
 use Prim.Native.Nat.{ℕ, _*_, _^_, _≤_}
 use lib.ListN.{length, take, drop}
-use Rattle.refusals.specs.Outcomes.{refused, given, outcome}
+use Rattle.refusals.specs.Checks.{Check, firstMet}
+use Rattle.refusals.specs.Outcomes.{refused, given, done, outcome}
 use Rattle.index.specs.Settings.{Representable, settingsRefusal}
+use Rattle.index.specs.Laws.{Laws}
 use Rattle.index.specs.declared.Settings.{Settings}
 use Rattle.lemmas.specs.Bytes.{AllBytes}
 use Rattle.calls.specs.WrittenForms.{anyFrom}
 use Rattle.file_form.specs.Writer.{fileOf, writeFile}
-use Rattle.file_form.specs.Reader.{readFile, headerAnswer}
+use Rattle.file_form.specs.Parsed.{next}
+use Rattle.file_form.specs.Reader.{readAll, readFile, headerAnswer}
 
+-- ── whatever checks are made of the settings ──
+-- what a file is that is sound by them: the writer's, of settings that fit their types and cells that fit the settings
+pub record SoundFile (bytes c : List ℕ) (s : Settings) : Type 0 where
+  pub types : Representable s
+  pub size : length c ≡ 4 * s .buckets
+  pub fits : anyFrom (2 ^ s .width) c ≡ false
+  pub same : fileOf s c ≡ bytes
+
+pub record AnyReader (checks : Settings → List Check) : Type 0 where
+  -- every such file of settings that pass, and that keep the laws, is read
+  pub back : (s : Settings) (bytes c : List ℕ) → Laws s → firstMet (checks s) ≡ none → SoundFile bytes c s → readAll checks bytes ≡ next (done s c) []
+  -- and no other
+  pub only : (bytes c end : List ℕ) (s : Settings) → AllBytes bytes → readAll checks bytes ≡ next (done s c) end → (firstMet (checks s) ≡ none) × SoundFile bytes c s
+
+-- ── the reader ──
 -- what the writer makes of good settings and a table whose cells fit the width, whatever made that table, the reader accepts into any
 -- table of the right length, and gives the same settings and cells back. Each setting fits its type, as any does that the code is handed:
 -- of a salt of more than 64 bits eight bytes would not tell all

@@ -17,7 +17,7 @@ use Rattle.file_form.specs.Parsed.{Parsed, next, andThen, refuseIf, chec
 use Rattle.file_form.specs.Fields.{bit, fromBits, anyOf, fieldBytes, takeFields}
 use Rattle.file_form.specs.Header.{masked}
 use Rattle.file_form.specs.Writer.{body, fileOf, writeFile}
-use Rattle.file_form.specs.Reader.{takeByte, afterHeader, readFile, named, headerAnswer}
+use Rattle.file_form.specs.Reader.{takeByte, afterHeader, into, readFile, named, headerAnswer}
 
 -- ── the four fields ──
 abbrev pub sizes4 : List ℕ
@@ -77,7 +77,7 @@ unfoldable pub readHeader4 : List ℕ → Parsed Settings
 readHeader4 bytes = andThen (takeByte bytes) afterMap4
 
 unfoldable pub readFile4 : List ℕ → List ℕ → Outcome Settings (List ℕ)
-readFile4 bytes c = keeping c (answerOf (andThen (readHeader4 bytes) (afterHeader c)))
+readFile4 bytes c = keeping c (answerOf (andThen (readHeader4 bytes) (afterHeader (into c))))
 
 unfoldable pub headerAnswer4 : List ℕ → Answer Settings
 headerAnswer4 bytes = named (readHeader4 bytes)

@@ -1,2 +1,3 @@
--- The steps of the code.
+-- The steps of the code, and what the callers use.
 pub mod FieldLoops
+pub mod Laws

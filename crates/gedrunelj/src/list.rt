@@ -288,6 +288,25 @@ pub(crate) fn pack(log: &mut Log, state: State, name: &[u8], cells: &[u16], spac
     }
 }
 
+// A hold file of a mask that splits no offset, written as one of the plain rule. The list has no part in it.
+fn convert_bytes(log: &mut Log, line: u64, bytes: &[u8], name: &[u8]) {
+    let mut out = super::file_space();
+    match file_convert::convert(bytes, &mut out) {
+        WriteAnswer::Refused(k) => refused(log, k),
+        WriteAnswer::Written(count) => keep(log, line, b"converted, ", name, &out, count),
+    }
+}
+
+pub(crate) fn convert(log: &mut Log, line: u64, from: &[u8], to: &[u8], space: &mut [u8]) {
+    let got = super::files::fetch(from, space);
+    if got.error != 0 {
+        failed(log, line, b"cannot read ", from, got.error);
+        return;
+    }
+    let n = got.count;
+    convert_bytes(log, line, &space[..n], to);
+}
+
 fn loaded(log: &mut Log, s: Settings, cells: &[u16]) {
     print(log, b"loaded, ");
     print_entries(log, table::filled(cells));

@@ -52,7 +52,7 @@ fn echo(log: &mut Log, line: &[u8]) {
 fn help(log: &mut Log) {
     print(
         log,
-        b"settings RULE WIDTH BUCKETS MASK [SALT], settings, hold TAG, release TAG, lookup TAG, view BUCKET, clear, save FILE, load FILE, pack FILE, unpack FILE, stats, help; a tag is text, or hexadecimal digits after 0x; # starts a comment; the end of the input ends it\n",
+        b"settings RULE WIDTH BUCKETS MASK [SALT], settings, hold TAG, release TAG, lookup TAG, view BUCKET, clear, save FILE, load FILE, pack FILE, unpack FILE, convert FROM TO, stats, help; a tag is text, or hexadecimal digits after 0x; # starts a comment; the end of the input ends it\n",
     );
 }
 
@@ -86,6 +86,13 @@ fn answer_other(log: &mut Log, state: State, line: &[u8], cells: &[u16], space: 
         Command::View(b) => list::view(log, state.settings, cells, b),
         Command::Save => list::save(log, state, commands::argument(line), cells, space),
         Command::Pack => list::pack(log, state, commands::argument(line), cells, space),
+        Command::Convert => list::convert(
+            log,
+            state.line,
+            commands::first_name(line),
+            commands::second_name(line),
+            space,
+        ),
         Command::Present => tell::print_settings(log, state.settings),
         Command::Stats => list::stats(log, state, cells),
         Command::Help => help(log),
@@ -544,7 +551,7 @@ fn main() {
         return;
     }
     if o.version {
-        io::write_all(STDOUT_FILENO, b"gedrunelj 0.5.0\n");
+        io::write_all(STDOUT_FILENO, b"gedrunelj 0.6.0\n");
         report(o.report, 0);
         return;
     }

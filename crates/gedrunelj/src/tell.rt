@@ -56,7 +56,7 @@ fn meaning(log: &mut Log, n: u32) {
         ),
         4 => print(
             log,
-            b"the mask is not 0 (rules 0 and 1) or not below the bucket count (rule 2)\n",
+            b"the mask is not 0 (rules 0 and 1) or not 1 to the bucket count less 2 (rule 2); a file may need convert\n",
         ),
         5 => print(log, b"the table does not have four cells for each bucket\n"),
         6 => print(log, b"scratch is shorter than two words for each bucket\n"),
@@ -92,6 +92,10 @@ fn file_meaning(log: &mut Log, n: u32) {
         23 => print(
             log,
             b"the file has fingerprints of an earlier kind; fill the list anew from the register\n",
+        ),
+        24 => print(
+            log,
+            b"the file needs no conversion: it is sound and of another rule or mask\n",
         ),
         _ => print(log, b"\n"),
     }
@@ -163,6 +167,11 @@ pub(crate) fn missing(log: &mut Log, line: u64, what: Expected) {
             log,
             line,
             b"the name of a file is missing after the command\n",
+        ),
+        Expected::Files => bad(
+            log,
+            line,
+            b"convert takes two names of files: the one to read, which is a word, and the one to write\n",
         ),
         Expected::Bucket => bad(log, line, b"view takes the number of a bucket\n"),
         _ => bad(

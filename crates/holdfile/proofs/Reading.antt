@@ -3,7 +3,7 @@
 use mathlib.Core.Path.{_≡_, refl, sym, ap, _∙_, subst}
 use mathlib.Core.Logic.{_≢_}
 use mathlib.Core.Bool.{Bool, true, false, not, cond, _||_, _&&_}
-use mathlib.Core.Option.{Option}
+use mathlib.Core.Option.{Option, none}
 use mathlib.Core.List.{List, [], _∷_, _++_, append-assoc, append-nil}
 use Prim.Native.Nat.{ℕ, zero, suc, _+_, _*_, _-_, _%_, _^_, _≤_, _<_}
 use native.Mathlib.Nat.{one-mul}
@@ -18,19 +18,17 @@ use lib.Pow.{shl-exact}
 use lib.Seq.{drop-cons, take-at, take-all, length-take-le}
 use Rattle.lemmas.proofs.Bools.{or-false-left, or-false-right}
 use Rattle.holdfile.proofs.Writing.{cond-le}
-use Rattle.refusals.specs.Checks.{firstMet, numberOf}
-use Rattle.refusals.specs.Outcomes.{refused, given, Done, done, Outcome, outcome, keeping}
+use Rattle.refusals.specs.Checks.{Check, firstMet, numberOf}
+use Rattle.refusals.specs.Outcomes.{Done, done, Outcome, keeping}
 use Rattle.refusals.proofs.Cursor.{number-met}
 use Rattle.index.specs.declared.Settings.{Settings}
-use Rattle.calls.specs.Calls.{tableChecks, Sound}
-use Rattle.calls.proofs.Laws.{table-check-laws}
 use Rattle.holdfile.specs.declared.Field.{Field}
 use Rattle.holdfile.specs.declared.Pass.{Pass}
 use Rattle.holdfile.specs.Internal.{fieldIs, passIs, pairFrom, cellFrom, bucketSize, GoodAt, endOf, GivesCells, cellsRead}
 use Rattle.file_form.specs.Bytes.{bit0, bit1, bit2, bit3}
 use Rattle.file_form.specs.Parsed.{Parsed, stop, next, andThen, refuseIf, checked, answerOf}
 use Rattle.file_form.proofs.Laws.{inFront, in-front-append}
-use Rattle.file_form.specs.Reader.{takeByte, takePair, readHeader, readCell, readCells, readBucket, readBuckets, leftOver, afterBuckets, afterHeader, readAll, readFile}
+use Rattle.file_form.specs.Reader.{takeByte, takePair, readHeader, readCell, readCells, readBucket, readBuckets, leftOver, afterBuckets, afterHeader, readAll, into, readFile}
 
 -- ── fields ──
 module _ (l : List ℕ) (at : ℕ) where
@@ -477,50 +475,97 @@ some-left l at h = ap leftOver (drop-cons l at 0 h)
 none-left : (l : List ℕ) (at : ℕ) → length l ≤ at → leftOver (drop at l) ≡ false
 none-left l at h = ap leftOver (drop-of-length-le l h)
 
-module _ (s : Settings) (t rest : List ℕ) where
+end-over : {A : Type 0} (a : A) (r : List ℕ) (b : Bool) → leftOver r ≡ b → refuseIf {A = Unit {0}} b 15 (next tt r) ≡ endOf (refuseIf (leftOver r) 15 (next a r))
+end-over a r true q = rw q refl
+end-over a r false q = rw q refl
+
+module _ (s : Settings) (rest : List ℕ) where
   abbrev cells : Parsed (List ℕ)
   cells = readBuckets (s .width) (s .buckets) rest
 
-  abbrev ends : Parsed (Done Settings (List ℕ)) → Outcome Settings (List ℕ)
-  ends p = keeping t (answerOf p)
+  abbrev body : Parsed (Done Settings (List ℕ))
+  body = andThen cells (afterBuckets s)
 
-  pub body-refused : (n : ℕ) → n ≡ numberOf (firstMet (tableChecks s t)) → n ≢ 0 → outcome (refused n) t ≡ ends (afterHeader t s rest)
-  unfolding afterHeader
-  body-refused n e h = sym (ap (λ (o : Option ℕ). ends (checked o (andThen cells (afterBuckets s)))) (number-met (tableChecks s t) e h))
+  -- where it ends: the buckets are read, and what is found there decides
+  pub end-stops : {n : ℕ} → stop n ≡ endOf cells → stop n ≡ endOf body
+  end-stops {n} e = go cells e
+    where
+      go : (p : Parsed (List ℕ)) → stop n ≡ endOf p → stop n ≡ endOf (andThen p (afterBuckets s))
+      go (stop m) f = f
+      go (next c end) f = absurd (let z : _≡_ {A = ℕ} 0 1 = cc in omega arith)
 
-  module _ (S : Sound s t) where
-    -- the buckets are read, and what is found there gives the answer
-    found : (p : Parsed (List ℕ)) → cells ≡ p → andThen p (afterBuckets s) ≡ afterHeader t s rest
-    unfolding afterHeader
-    found p e = ap (λ (q : Parsed (List ℕ)). andThen q (afterBuckets s)) (sym e) ∙ sym (ap (λ (o : Option ℕ). checked o (andThen cells (afterBuckets s))) (table-check-laws s t .passes S))
-
-    pub body-stops : (n : ℕ) → stop n ≡ endOf cells → outcome (refused n) t ≡ ends (afterHeader t s rest)
-    body-stops n e = go cells refl e
+  module _ (l : List ℕ) (end : ℕ) (e : next tt (drop end l) ≡ endOf cells) where
+    ended : (b : Bool) → leftOver (drop end l) ≡ b → refuseIf {A = Unit {0}} b 15 (next tt (drop end l)) ≡ endOf body
+    unfolding afterBuckets
+    ended b k = go cells e
       where
-        go : (p : Parsed (List ℕ)) → cells ≡ p → stop n ≡ endOf p → outcome (refused n) t ≡ ends (afterHeader t s rest)
-        go (stop m) q f = ap (λ (x : ℕ). outcome (refused x) t) (let k : n ≡ m = cc in k) ∙ ap ends (found (stop m) q)
-        go (next c end) q f = absurd (let z : _≡_ {A = ℕ} 0 1 = cc in omega arith)
+        go : (p : Parsed (List ℕ)) → next tt (drop end l) ≡ endOf p → refuseIf {A = Unit {0}} b 15 (next tt (drop end l)) ≡ endOf (andThen p (afterBuckets s))
+        go (stop m) f = absurd (let z : _≡_ {A = ℕ} 0 1 = cc in omega arith)
+        go (next c r) f =
+            let same : drop end l ≡ r = cc in
+            ap (λ (x : List ℕ). refuseIf {A = Unit {0}} b 15 (next tt x)) same ∙ end-over (done s c) r b (sym (ap leftOver same) ∙ k)
 
-    module _ (l : List ℕ) (end : ℕ) (e : next tt (drop end l) ≡ endOf cells) where
-      ended : (b : Bool) → leftOver (drop end l) ≡ b → ends (refuseIf b 15 (next (done s (cellsRead cells)) (drop end l))) ≡ ends (afterHeader t s rest)
-      unfolding afterBuckets
-      ended b k = go cells refl e
-        where
-          go : (p : Parsed (List ℕ)) → cells ≡ p → next tt (drop end l) ≡ endOf p → ends (refuseIf b 15 (next (done s (cellsRead p)) (drop end l))) ≡ ends (afterHeader t s rest)
-          go (stop m) q f = absurd (let z : _≡_ {A = ℕ} 0 1 = cc in omega arith)
-          go (next c r) q f =
-              let same : drop end l ≡ r = cc in
-              ap (λ (x : Bool). ends (refuseIf x 15 (next (done s c) (drop end l)))) (sym k)
-              ∙ ap (λ (x : List ℕ). ends (afterBuckets s c x)) same
-              ∙ ap ends (found (next c r) q)
+    pub end-left : end < length l → stop 15 ≡ endOf body
+    end-left h = ended true (some-left l end h)
 
-      pub body-left : end < length l → outcome (refused 15) t ≡ ends (afterHeader t s rest)
-      body-left h = ended true (some-left l end h)
+    pub end-done : length l ≤ end → next tt (drop end l) ≡ endOf body
+    end-done h = ended false (none-left l end h)
 
-      pub body-given : length l ≤ end → (c : List ℕ) → c ≡ cellsRead cells → outcome (given s) c ≡ ends (afterHeader t s rest)
-      body-given h c q = ap (outcome (given s)) q ∙ ended false (none-left l end h)
+  -- a body that ends gave its cells, and left nothing
+  pub record Read (b : Parsed (Done Settings (List ℕ))) : Type 0 where
+    pub gives : GivesCells cells
+    pub is : b ≡ next (done s (cellsRead cells)) []
+
+  pub body-read : {more : List ℕ} → next tt more ≡ endOf body → Read body
+  unfolding afterBuckets
+  body-read {more} e = go cells refl e
+    where
+      over : (c r : List ℕ) → next tt more ≡ endOf (refuseIf (leftOver r) 15 (next (done s c) r)) → refuseIf (leftOver r) 15 (next (done s c) r) ≡ next (done s c) []
+      over c [] f = refl
+      over c (b ∷ r) f = absurd (let z : _≡_ {A = ℕ} 0 1 = cc in omega arith)
+
+      go : (p : Parsed (List ℕ)) → cells ≡ p → next tt more ≡ endOf (andThen p (afterBuckets s)) → Read (andThen p (afterBuckets s))
+      go (stop m) q f = absurd (let z : _≡_ {A = ℕ} 0 1 = cc in omega arith)
+      go (next c r) q f = record { gives = subst GivesCells (sym q) tt; is = over c r f ∙ ap (λ (x : Parsed (List ℕ)). next (done s (cellsRead x)) []) (sym q) }
+
+  body-stopped : {n : ℕ} → stop n ≡ endOf body → body ≡ stop n
+  body-stopped {n} e = go body e
+    where
+      go : (p : Parsed (Done Settings (List ℕ))) → stop n ≡ endOf p → p ≡ stop n
+      go (stop m) f = let k : m ≡ n = cc in ap stop k
+      go (next d end) f = absurd (let z : _≡_ {A = ℕ} 0 1 = cc in omega arith)
+
+  -- behind any checks of the settings
+  module _ (checks : Settings → List Check) where
+    pub checks-met : {n : ℕ} → n ≡ numberOf (firstMet (checks s)) → n ≢ 0 → afterHeader checks s rest ≡ stop n
+    unfolding afterHeader
+    checks-met e h = ap (λ (o : Option ℕ). checked o body) (number-met (checks s) e h)
+
+    module _ (p : firstMet (checks s) ≡ none) where
+      checks-passed : afterHeader checks s rest ≡ body
+      unfolding afterHeader
+      checks-passed = ap (λ (o : Option ℕ). checked o body) p
+
+      pub after-stops : {n : ℕ} → stop n ≡ endOf body → afterHeader checks s rest ≡ stop n
+      after-stops e = checks-passed ∙ body-stopped e
+
+      pub after-read : {more : List ℕ} → next tt more ≡ endOf body → afterHeader checks s rest ≡ next (done s (cellsRead cells)) []
+      after-read e = checks-passed ∙ body-read e .is
 
 -- ── the whole: the header, and what stands behind it ──
-pub file-read : (l t : List ℕ) (h : Parsed Settings) {r : Outcome Settings (List ℕ)} → h ≡ readHeader l → r ≡ keeping t (answerOf (andThen h (afterHeader t))) → r ≡ readFile l t
+pub ends-as : (t : List ℕ) {p q : Parsed (Done Settings (List ℕ))} → p ≡ q → keeping t (answerOf q) ≡ keeping t (answerOf p)
+ends-as t e = ap (λ (x : Parsed (Done Settings (List ℕ))). keeping t (answerOf x)) (sym e)
+
+pub file-read : (l t : List ℕ) (h : Parsed Settings) {r : Outcome Settings (List ℕ)} → h ≡ readHeader l → r ≡ keeping t (answerOf (andThen h (afterHeader (into t)))) → r ≡ readFile l t
 unfolding readFile readAll
-file-read l t h e q = q ∙ ap (λ (p : Parsed Settings). keeping t (answerOf (andThen p (afterHeader t)))) e
+file-read l t h e q = q ∙ ap (λ (p : Parsed Settings). keeping t (answerOf (andThen p (afterHeader (into t))))) e
+
+-- a file without a table
+module _ (checks : Settings → List Check) (l : List ℕ) where
+  pub examine-stops : {n : ℕ} → readHeader l ≡ stop n → readAll checks l ≡ stop n
+  unfolding readAll
+  examine-stops e = ap (λ (p : Parsed Settings). andThen p (afterHeader checks)) e
+
+  pub examine-on : {s : Settings} {rest : List ℕ} → readHeader l ≡ next s rest → readAll checks l ≡ afterHeader checks s rest
+  unfolding readAll
+  examine-on e = ap (λ (p : Parsed Settings). andThen p (afterHeader checks)) e

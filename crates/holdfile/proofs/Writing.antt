@@ -1,19 +1,18 @@
 -- The writer's steps: cells that may be left out, the sizes that the first pass adds up, and the buckets in a row.
 -- Assumes nothing.
-use mathlib.Core.Path.{_≡_, refl, sym, ap, ap₂, _∙_}
+use mathlib.Core.Path.{_≡_, refl, ap, ap₂, _∙_}
 use mathlib.Core.Bool.{Bool, true, false, cond, _||_, or-assoc}
 use mathlib.Core.List.{List, [], _∷_, _++_}
 use Prim.Native.Nat.{ℕ, zero, suc, _+_, _*_, _/_, _%_, _^_, _≤_, _<_, max}
 use native.Mathlib.Numerals.{add-one}
 use native.Mathlib.Omega.{arith}
 use mir.Val.{boolByte}
-use borrow.Author.Tests.{le-leb}
 use lib.Dec.{leb}
 use lib.ListN.{length, drop, getD, set, length-append, drop-of-length-le}
-use lib.Seq.{sets, sets-eq, drop-cons}
+use lib.Seq.{sets, drop-cons}
 use Rattle.lemmas.specs.Stores.{Put, PutBefore}
 use Rattle.lemmas.proofs.Numbers.{max-wide}
-use Rattle.lemmas.proofs.Stores.{drop-four, sets-append, put-nothing, put-before, stored-over}
+use Rattle.lemmas.proofs.Stores.{drop-four, put-nothing, put-before, put-from-start, stored-over}
 use Rattle.refusals.specs.Outcomes.{refused, given, outcome}
 use Rattle.index.specs.declared.Settings.{Settings}
 use Rattle.index.proofs.Laws.{laws}
@@ -21,7 +20,6 @@ use Rattle.calls.specs.Calls.{Sound}
 use Rattle.file_form.specs.Bytes.{pair, where?}
 use Rattle.calls.specs.WrittenForms.{anyFrom}
 use Rattle.file_form.specs.Writer.{header, filled, cellBytes, bucketBytes, body, fileOf, writeFile}
-use Rattle.file_header.specs.Answers.{HeaderPut}
 use Rattle.holdfile.specs.Internal.{slack, bucketBytesAt}
 use Rattle.file_form.proofs.Laws.{header-laws}
 use Rattle.calls.proofs.Laws.{writer-laws}
@@ -141,13 +139,6 @@ module _ (c : List ℕ) (i : ℕ) where
   pub any-end : (n : ℕ) → length c ≤ i → anyFrom n (drop i c) ≡ false
   any-end n h = ap (anyFrom n) (drop-of-length-le c h)
 
--- the header has been put to an output that has room for it
-pub header-put : {s : Settings} {o e : List ℕ} {n : ℕ} → HeaderPut s o e n → length (header s) ≤ length o → Put o e 0 (header s) n
-header-put {s} {o} k h = record {
-  output = k .output ∙ ap (λ (t : Bool). cond t (sets o 0 (header s)) o) (le-leb (length (header s)) (length o) h);
-  place = omega (arith, k .count);
-}
-
 -- ── what the call answers ──
 pub file-length : (s : Settings) (c : List ℕ) → length (fileOf s c) ≡ length (header s) + length (body c)
 unfolding fileOf
@@ -175,9 +166,5 @@ module _ (s : Settings) (c : List ℕ) (S : Sound s c) where
     pub answer-written : needed ≤ length out → (mid after : List ℕ) (at : ℕ) → Put out mid 0 (header s) at → after ≡ sets mid at (body c) → outcome (given needed) after ≡ writeFile s c out
     unfolding writeFile fileOf
     answer-written h mid after at k b =
-        let room : 0 + length (header s ++ body c) ≤ length out = omega (arith, length-append (header s) (body c)) in
-        let stored : after ≡ sets out 0 (header s ++ body c) = b ∙ ap₂ (λ (x : List ℕ) (y : ℕ). sets x y (body c)) (k .output) (k .place) ∙ sym (sets-append out 0 (header s) (body c)) in
-        let zero-add : 0 + length (header s ++ body c) ≡ length (header s ++ body c) = omega arith in
-        let whole : after ≡ (header s ++ body c) ++ drop (length (header s ++ body c)) out =
-        stored ∙ sets-eq (header s ++ body c) out 0 room ∙ ap (λ (x : ℕ). (header s ++ body c) ++ drop x out) zero-add in
+        let whole = put-from-start (body c) k b (omega (arith, needed-is)) in
         ap₂ (λ (x : ℕ) (y : List ℕ). outcome (given x) y) needed-is whole ∙ writer-laws s c (header s ++ body c) out .writes S fits (omega (arith, needed-is))

@@ -9,11 +9,11 @@ ghost use lib.Seq.{sets};
 ghost use Rattle.lemmas.specs.Stores.{Put, PutBefore};
 ghost use Rattle.file_form.specs.Bytes.{nibble as nibbleOf, one as oneOf};
 ghost use Rattle.refusals.specs.Outcomes.{outcome, keeping};
-ghost use Rattle.file_form.specs.Parsed.{next, answerOf};
+ghost use Rattle.file_form.specs.Parsed.{next, andThen, answerOf};
 ghost use Rattle.file_form.specs.Writer.{cellBytes, body, writeFile};
-ghost use Rattle.file_form.specs.Reader.{takeByte, takePair, readCell, readBucket, readBuckets, afterHeader, readFile};
+ghost use Rattle.file_form.specs.Reader.{takeByte, takePair, readCell, readBucket, readBuckets, afterBuckets, afterHeader, into, readFile};
 ghost use Rattle.file_header.specs.Answers.{readIs};
-ghost use Rattle.holdfile.specs.Answers.{writeIs};
+ghost use Rattle.holdfile.specs.Answers.{writeIs, Examined};
 ghost use Rattle.holdfile.specs.Internal.{fieldIs, slack, passIs, endOf, pairFrom, GivesCells, cellsRead, bucketSize, GoodAt, Sized, bucketBytesAt};
 use file_header::HeaderRead;
 use file_header::ReadAnswer;
@@ -426,9 +426,26 @@ fn store_buckets(bytes: &[u8], from: usize, width: u32, count: u32, table: &mut 
     }
 }
 
+// The place after the buckets that follow a header, where they are sound and nothing is left over.
+fn body_end(s: Settings, bytes: &[u8], at: usize) -> Pass
+    requires { ⌜ s .width ≤ 16 ⌝ }
+    ensures { λ r. ⌜ passIs (now (bytes .entry)) r ≡ endOf (andThen (readBuckets (s .width) (s .buckets) (drop at (now (bytes .entry)))) (afterBuckets s)) ⌝ }
+{
+    let width = s.width;
+    let buckets = s.buckets;
+    let p = check_buckets(bytes, at, width, buckets);
+    let Pass::End(end) = p else {
+        return p;
+    };
+    if end < bytes.len() {
+        return Pass::Refused(15);
+    }
+    Pass::End(end)
+}
+
 // What follows the header, once the fields are known.
 fn read_body(s: Settings, bytes: &[u8], at: usize, table: &mut [u16]) -> ReadAnswer
-    ensures { λ r. ⌜ outcome (readIs r) (now (table .exit)) ≡ keeping (now (table .entry)) (answerOf (afterHeader (now (table .entry)) s (drop at (now (bytes .entry))))) ⌝ }
+    ensures { λ r. ⌜ outcome (readIs r) (now (table .exit)) ≡ keeping (now (table .entry)) (answerOf (afterHeader (into (now (table .entry))) s (drop at (now (bytes .entry))))) ⌝ }
 {
     let n = table::table_refusal(s, table);
     if n != 0 {
@@ -436,12 +453,9 @@ fn read_body(s: Settings, bytes: &[u8], at: usize, table: &mut [u16]) -> ReadAns
     }
     let width = s.width;
     let buckets = s.buckets;
-    match check_buckets(bytes, at, width, buckets) {
+    match body_end(s, bytes, at) {
         Pass::Refused(k) => ReadAnswer::Refused(k),
-        Pass::End(end) => {
-            if end < bytes.len() {
-                return ReadAnswer::Refused(15);
-            }
+        Pass::End(_) => {
             store_buckets(bytes, at, width, buckets, table);
             ReadAnswer::Read(s)
         }
@@ -455,5 +469,24 @@ pub fn read(bytes: &[u8], table: &mut [u16]) -> ReadAnswer
     match file_header::header_at(bytes) {
         HeaderRead::Refused(n) => ReadAnswer::Refused(n),
         HeaderRead::Fields(s, at) => read_body(s, bytes, at, table),
+    }
+}
+
+// A file by itself, without a table: the settings that its header names and the place where its buckets start, where the whole is sound
+// by the former checks of the settings. What a degenerate mask was written under passes here.
+pub fn examine(bytes: &[u8]) -> HeaderRead
+    ensures { λ r. ⌜ Examined (now (bytes .entry)) r ⌝ }
+{
+    let h = file_header::header_at(bytes);
+    let HeaderRead::Fields(s, at) = h else {
+        return h;
+    };
+    let n = s.former_refusal();
+    if n != 0 {
+        return HeaderRead::Refused(n);
+    }
+    match body_end(s, bytes, at) {
+        Pass::Refused(k) => HeaderRead::Refused(k),
+        Pass::End(_) => HeaderRead::Fields(s, at),
     }
 }

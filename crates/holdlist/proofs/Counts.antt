@@ -1,5 +1,5 @@
--- A count that a call answers is at most the length of what it leaves, so that a signed number has room for it: for the two writers and
--- the reader of the packed form.
+-- A count that a call answers is at most the length of what it leaves, so that a signed number has room for it: for the two writers, the
+-- converter and the reader of the packed form.
 -- Assumes nothing.
 use mathlib.Core.Path.{_≡_, sym, ap, subst, _∙_}
 use mathlib.Core.Bool.{Bool, true, false, cond}
@@ -12,12 +12,16 @@ use lib.Dec.{eqb}
 use lib.ListN.{length, drop, length-append}
 use Rattle.lemmas.specs.Bytes.{numberFrom}
 use Rattle.refusals.specs.Checks.{firstMet}
-use Rattle.refusals.specs.Outcomes.{Answer, given, refused, unless, done, Outcome, outcome, keeping}
+use Rattle.refusals.specs.Outcomes.{Answer, given, refused, unless, Done, done, Outcome, outcome, keeping}
+use Rattle.index.specs.Settings.{formerChecks}
 use Rattle.index.specs.declared.Settings.{Settings}
 use Rattle.calls.specs.Cells.{filledCount}
 use Rattle.calls.specs.Calls.{tableChecks}
 use Rattle.calls.specs.WrittenForms.{writeChecks, written}
 use Rattle.file_form.specs.Writer.{fileOf, writeFile}
+use Rattle.file_form.specs.Parsed.{answerOf}
+use Rattle.file_form.specs.Reader.{readAll}
+use Rattle.file_convert.specs.Converter.{plainBytes, convertChecks, fromFile, convertFile}
 use Rattle.packed_form.specs.Writer.{packedOf, writePacked}
 use Rattle.packed_form.specs.Reader.{withCount, unpack, lengthChecks, readPacked}
 use Rattle.holdlist.specs.Numbers.{itself}
@@ -48,6 +52,19 @@ pub packed-counts : (s : Settings) (c out : List ℕ) → Counts (writePacked s 
 unfolding writePacked
 packed-counts s c out = written-counts s c (packedOf s c) out
 
+-- ── the converter ──
+pub converted-counts : (bytes out : List ℕ) → Counts (convertFile bytes out)
+unfolding convertFile
+converted-counts bytes out = go (answerOf (readAll formerChecks bytes))
+  where
+    by : (o : Option ℕ) → Counts (keeping out (unless o (given (done (length (plainBytes bytes)) (plainBytes bytes ++ drop (length (plainBytes bytes)) out)))))
+    by (some k) = record { within = tt }
+    by none = record { within = omega (arith, length-append (plainBytes bytes) (drop (length (plainBytes bytes)) out)) }
+
+    go : (a : Answer (Done Settings (List ℕ))) → Counts (keeping out (fromFile (plainBytes bytes) out a))
+    go (refused k) = record { within = tt }
+    go (given d) = by (firstMet (convertChecks (d .says) (length out) (length (plainBytes bytes))))
+
 -- ── the reader of the packed form ──
 one-at-most : (t : Bool) → cond t 0 1 ≤ 1
 one-at-most true = omega arith
@@ -66,7 +83,7 @@ unpacked-counts s bytes c = go (firstMet (tableChecks s c ++ lengthChecks s byte
     go none (refused k) = record { within = tt }
     go none (given k) = record { within = filled-below k }
 
--- ── each of the three, answered as the case r′ of its type, where m elements of a size were lent ──
+-- ── each of these, answered as the case r′ of its type, where m elements of a size were lent ──
 -- what crosses the boundary, and that a signed number has room for the count
 pub record Counted (a : Answer ℕ) (left : List ℕ) (x : Outcome ℕ (List ℕ)) : Type 0 where
   pub tells : Told itself a left x

@@ -11,6 +11,7 @@ ghost use Rattle.index.specs.Answers.{entryOf, offsetAnswer, candidatesAnswer};
 ghost use Rattle.calls.specs.Calls.{clearTable, lookup as lookupOf, release as releaseOf, hold as holdOf, holdChecks};
 ghost use Rattle.file_form.specs.Writer.{writeFile};
 ghost use Rattle.file_form.specs.Reader.{readFile, headerAnswer};
+ghost use Rattle.file_convert.specs.Converter.{convertFile};
 ghost use Rattle.packed_form.specs.Writer.{writePacked};
 ghost use Rattle.packed_form.specs.Reader.{readPacked};
 ghost use Rattle.holdlist.specs.Numbers.{settingsAt, numbersOf, minus, signed, itself, saidNumber};
@@ -262,6 +263,19 @@ pub extern "C" fn holdlist_file_settings(bytes: &[u8], settings: &mut Lent) -> i
     match file_header::settings_of(bytes) {
         ReadAnswer::Read(s) => hand_out(s, settings),
         ReadAnswer::Refused(k) => refused(k),
+    }
+}
+
+// A hold file of a mask that splits no offset, to out as one of the plain rule, and how many bytes it takes. Later bytes of out stay as
+// they are.
+#[no_mangle]
+pub extern "C" fn holdlist_file_convert(bytes: &[u8], out: &mut [u8]) -> i64
+    ensures { λ r. ⌜ r ≡ signed itself (convertFile (now (bytes .entry)) (now (out .entry)) .answer) ⌝ }
+    ensures { λ r. ⌜ now (out .exit) ≡ convertFile (now (bytes .entry)) (now (out .entry)) .leaves ⌝ }
+{
+    match file_convert::convert(bytes, out) {
+        WriteAnswer::Written(n) => given_count(n),
+        WriteAnswer::Refused(k) => refused(k),
     }
 }
 

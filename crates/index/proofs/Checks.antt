@@ -12,17 +12,18 @@ use lib.ListN.{length}
 use Rattle.lemmas.proofs.Bools.{or-true-left, or-true-right, or-false}
 use Rattle.refusals.specs.Checks.{firstMet, Numbered}
 use Rattle.refusals.specs.Outcomes.{refused, given}
-use Rattle.refusals.proofs.Cursor.{start, met, passed, none-left, all-passed, goes-on, by-check, by-none}
-use Rattle.index.specs.Settings.{settingsChecks, settingsRefusal}
+use Rattle.refusals.proofs.Cursor.{start, met, passed, none-left, all-passed, numbered-both, goes-on, by-check, by-none}
+use Rattle.index.specs.Settings.{formerChecks, settingsChecks, settingsRefusal}
 use Rattle.index.specs.Hash.{fingerprint, home, tagChecks}
 use Rattle.index.specs.Candidates.{candidates, bucketChecks}
 use Rattle.index.specs.Answers.{Entry, entryOf, candidatesAnswer}
 use Rattle.index.specs.Laws.{CheckLaws}
 use Rattle.index.specs.declared.Settings.{Settings}
+use Rattle.index.proofs.Refusals.{numbered-former}
 
 pub numbered : (s : Settings) → Numbered (settingsChecks s)
 unfolding settingsChecks
-numbered s = (omega arith, (omega arith, (omega arith, (omega arith, tt))))
+numbered s = numbered-both (formerChecks s) _ (numbered-former s) (omega arith, tt)
 
 pub tag-passes : (t : List ℕ) → 0 < length t → length t ≤ 64 → firstMet (tagChecks t) ≡ none
 unfolding tagChecks

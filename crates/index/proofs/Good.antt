@@ -14,7 +14,8 @@ use lib.Dec.{eqb, leb, ltb}
 use lib.Pow.{pow-lt, pow-mono}
 use Rattle.lemmas.proofs.Bools.{or-false-left, or-false-right, cond-none}
 use Rattle.lemmas.proofs.Powers.{power-of-and, and-of-power}
-use Rattle.index.specs.Settings.{byRule, powerBelow, powerOfTwo, odd, settingsChecks, settingsRefusal, half, modulus}
+use Rattle.refusals.proofs.Cursor.{parts-passed}
+use Rattle.index.specs.Settings.{byRule, powerBelow, powerOfTwo, odd, formerChecks, formerRefusal, settingsChecks, settingsRefusal, half, modulus}
 use Rattle.index.specs.declared.Settings.{Settings}
 
 -- ── powers of two ──
@@ -116,9 +117,10 @@ mask-of-good r m k e n o = leb-false m k (sym (by-masked r (not (eqb k 0)) (not 
 mask-of-none : (r m k : ℕ) → byRule r (not (eqb k 0)) (not (eqb k 0)) (leb m k) ≡ false → r ≤ 2 → r ≢ 2 → k ≡ 0
 mask-of-none r m k e l n = eqb-true k 0 (not-false (eqb k 0) (sym (by-pair r (not (eqb k 0)) (leb m k) (omega arith)) ∙ e))
 
-pub good : (s : Settings) → settingsRefusal s ≡ none → Good s
-unfolding settingsChecks
-good s e =
+-- the former checks are enough
+pub former-good : (s : Settings) → formerRefusal s ≡ none → Good s
+unfolding formerChecks
+former-good s e =
     let m : ℕ = s .buckets in
     let c1 = cond-none (ltb 2 (s .rule)) 1 _ e in
     let c2 = cond-none (ltb (s .width) 4 || ltb 16 (s .width)) 2 _ (c1 .1) in
@@ -137,6 +139,13 @@ good s e =
       mask = mask-of-good (s .rule) m (s .mask) (c4 .0);
       no-mask = mask-of-none (s .rule) m (s .mask) (c4 .0) (ltb-false 2 (s .rule) (c1 .0));
     }
+
+pub former : (s : Settings) → settingsRefusal s ≡ none → formerRefusal s ≡ none
+unfolding settingsChecks
+former s e = parts-passed (formerChecks s) _ e .0
+
+pub good : (s : Settings) → settingsRefusal s ≡ none → Good s
+good s e = former-good s (former s e)
 
 -- ── what hashes are reduced by ──
 pub modulus-ring : (s : Settings) → s .rule ≡ 1 → modulus s ≡ s .buckets / 2

@@ -89,7 +89,7 @@ module _ (s : Settings) (G : Good s) where
         one : (d : ℕ) → d < s .buckets → (e : ℕ) → e among d ∷ [] → e < s .buckets
         one d hd = among-cons (λ x. x < s .buckets) d [] hd (among-nil (λ x. x < s .buckets))
 
-  xor-offset : (p : ℕ) → s .rule ≢ 1 → offset s p < s .buckets
+  pub xor-offset : (p : ℕ) → s .rule ≢ 1 → offset s p < s .buckets
   xor-offset p n = rw (modulus-xor s n) at (offset-below p)
 
   xor-inside : (b e : ℕ) → s .rule ≢ 1 → b < s .buckets → e < s .buckets → bitXor b e < s .buckets

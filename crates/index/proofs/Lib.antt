@@ -9,3 +9,4 @@ pub mod Answers
 pub mod Computes
 pub mod Unsalted
 pub mod Even
+pub mod DegenerateMasks

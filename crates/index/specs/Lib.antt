@@ -6,3 +6,4 @@ pub mod Answers
 pub mod Unsalted
 pub mod Even
 pub mod Laws
+pub mod DegenerateMasks

@@ -2,8 +2,8 @@
 -- Assumes nothing.
 use mathlib.Core.Bool.{Bool, false, not, _||_}
 use mathlib.Core.Option.{Option}
-use mathlib.Core.List.{List, [], _∷_}
-use Prim.Native.Nat.{ℕ, zero, suc, _/_, _%_, _^_, _<_}
+use mathlib.Core.List.{List, [], _∷_, _++_}
+use Prim.Native.Nat.{ℕ, zero, suc, _-_, _/_, _%_, _^_, _<_}
 use lib.Dec.{eqb, leb, ltb}
 use Rattle.refusals.specs.Checks.{Check, check, firstMet}
 use Rattle.index.specs.declared.Settings.{Settings}
@@ -46,18 +46,34 @@ odd m = eqb (m % 2) 1
 abbrev pub misshapen : Settings → Bool
 misshapen s = byRule (s .rule) (not (powerOfTwo (s .buckets))) (odd (s .buckets)) (not (powerOfTwo (s .buckets)))
 
--- the rows of the place "settings", in their order
-unfoldable pub settingsChecks : Settings → List Check
-settingsChecks s =
+-- a mask that splits no offset (document 02: that does no work). It takes none of an offset's bits or all of them, so that the four
+-- candidates of the masked rule are two
+unfoldable pub degenerate : Settings → Bool
+degenerate s = byRule (s .rule) false false (eqb (s .mask) 0 || eqb (s .mask) (s .buckets - 1))
+
+-- the rows of the place "settings", in their order, as they were while a degenerate mask still passed
+unfoldable pub formerChecks : Settings → List Check
+formerChecks s =
     check 1 (ltb 2 (s .rule))
     ∷ check 2 (ltb (s .width) 4 || ltb 16 (s .width))
     ∷ check 3 (eqb (s .buckets) 0 || ltb 65536 (s .buckets) || misshapen s)
     ∷ check 4 (byRule (s .rule) (not (eqb (s .mask) 0)) (not (eqb (s .mask) 0)) (leb (s .buckets) (s .mask)))
     ∷ []
 
+abbrev pub formerRefusal : Settings → Option ℕ
+formerRefusal s = firstMet (formerChecks s)
+
+-- and as they are: it is refused as one that is out of range is
+unfoldable pub settingsChecks : Settings → List Check
+settingsChecks s = formerChecks s ++ (check 4 (degenerate s) ∷ [])
+
 -- the first number by which the settings are refused, if any
 abbrev pub settingsRefusal : Settings → Option ℕ
 settingsRefusal s = firstMet (settingsChecks s)
+
+-- the same width, bucket count and salt under the plain rule
+abbrev pub unmasked : Settings → Settings
+unmasked s = record { rule = 0; width = s .width; buckets = s .buckets; mask = 0; salt = s .salt }
 
 -- L, half the bucket count, which the ring rule alone uses
 unfoldable pub half : Settings → ℕ

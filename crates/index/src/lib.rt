@@ -6,7 +6,7 @@ ghost use Prim.Native.Nat.{_+_, _*_, _-_, _%_, _^_, _<_, _≤_};
 ghost use lib.Bits.{bitXor};
 ghost use mathlib.Core.Option.{none};
 ghost use Rattle.refusals.specs.Checks.{numberOf};
-ghost use Rattle.index.specs.Settings.{byRule, defaultSettings, Representable, settingsRefusal, modulus, powerOfTwo, odd};
+ghost use Rattle.index.specs.Settings.{byRule, defaultSettings, Representable, degenerate as degenerateMask, formerRefusal, settingsRefusal, modulus, powerOfTwo, odd};
 ghost use Rattle.index.specs.Hash.{fnvStart, fnvStep, fnvPrime, fingerprintOf, fnvFrom as hashFrom, fnv1a as hashOf, tagHash as hashOfTag};
 ghost use Rattle.index.specs.Candidates.{offset as offsetOf, across as acrossOf};
 ghost use Rattle.index.specs.Answers.{checkedIs, checkedSettings, tagEntryIs, entryOf, offsetIs, offsetAnswer, Lists, candidatesAnswer};
@@ -70,6 +70,17 @@ fn mask_limit(rule: u32, buckets: u32) -> u32
     if rule == 2 { buckets } else { 1 }
 }
 
+// Whether the mask splits no offset: none of its bits, or all, under the masked rule.
+fn degenerate(s: Settings) -> bool
+    requires { ⌜ (s .rule ≤ 2) × (0 < s .buckets) ⌝ }
+    ensures { λ r. ⌜ r ≡ degenerateMask s ⌝ }
+{
+    let rule = s.rule;
+    let mask = s.mask;
+    let last = s.buckets - 1;
+    (rule == 2) & ((mask == 0) | (mask == last))
+}
+
 impl Settings {
     // The default of each field.
     pub const RULE: u32 = 0;
@@ -94,9 +105,10 @@ impl Settings {
         }
     }
 
-    // The first number by which the settings are refused, 0 where they pass.
-    pub fn refusal(self) -> u32
-        ensures { λ r. ⌜ r ≡ numberOf (settingsRefusal self) ⌝ }
+    // The first number by which the settings are refused, 0 where they pass, while a degenerate mask still passed: files of that time
+    // are converted.
+    pub fn former_refusal(self) -> u32
+        ensures { λ r. ⌜ r ≡ numberOf (formerRefusal self) ⌝ }
     {
         let rule = self.rule;
         let width = self.width;
@@ -122,6 +134,20 @@ impl Settings {
         }
         let limit = mask_limit(rule, buckets);
         if mask >= limit {
+            return 4;
+        }
+        0
+    }
+
+    // The first number by which the settings are refused, 0 where they pass.
+    pub fn refusal(self) -> u32
+        ensures { λ r. ⌜ r ≡ numberOf (settingsRefusal self) ⌝ }
+    {
+        let n = self.former_refusal();
+        if n != 0 {
+            return n;
+        }
+        if degenerate(self) {
             return 4;
         }
         0

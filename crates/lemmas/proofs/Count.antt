@@ -56,6 +56,9 @@ zero-cases (suc n) = inr (omega arith)
 pub hit-eq : (x y : ℕ) → 1 ≤ hit x y → x ≡ y
 hit-eq x y h = elim (hit-cases x y) [ inl e ↦ e | inr z ↦ absurd (omega arith) ]
 
+pub hit-miss : (x y : ℕ) → x ≢ y → hit x y ≡ 0
+hit-miss x y n = elim (hit-cases x y) [ inl e ↦ absurd (n e) | inr z ↦ z ]
+
 pub hit-sym : (x y : ℕ) → hit x y ≡ hit y x
 hit-sym x y = go (hit-cases x y) (hit-cases y x)
   where

@@ -5,11 +5,12 @@ use mathlib.Core.Logic.{_⊎_, inl, inr}
 use mathlib.Core.Bool.{Bool, true, false, cond}
 use mathlib.Core.List.{List, [], _∷_, _++_}
 use Prim.Native.Nat.{ℕ, zero, suc, _+_, _<_}
+use native.Mathlib.Decide.{ℕ-discrete}
 use native.Mathlib.Omega.{arith}
 use lib.Dec.{eqb, eqb→eq}
 use Rattle.lemmas.specs.Count.{hit, occ, _among_}
-use Rattle.lemmas.specs.Members.{membersBelow, AllAbove, Ascending, Alike}
-use Rattle.lemmas.proofs.Count.{T-of, eqb-ne, hit-cases, hit-of, hit-ne, occ-append}
+use Rattle.lemmas.specs.Members.{membersBelow, AllAbove, Ascending, Alike, firsts}
+use Rattle.lemmas.proofs.Count.{T-of, eqb-ne, hit-cases, hit-refl, hit-of, hit-ne, hit-miss, occ-append}
 
 pub alike-refl : (l : List ℕ) → Alike l l
 alike-refl l x = (λ h. h, λ h. h)
@@ -91,3 +92,26 @@ members-ascend (suc n) l = go (eqb (occ n l) 0)
     go : (b : Bool) → Ascending (membersBelow n l ++ []) → Ascending (membersBelow n l ++ (n ∷ [])) → Ascending (membersBelow n l ++ cond b [] (n ∷ []))
     go true p q = p
     go false p q = q
+
+-- ── two numbers, each twice ──
+module _ (a b : ℕ) where
+  -- one behind itself, and the pair behind the pair
+  pub firsts-doubled : firsts (a ∷ a ∷ b ∷ b ∷ []) ≡ firsts (a ∷ b ∷ [])
+  unfolding firsts
+  firsts-doubled = elim (ℕ-discrete b a) [
+    | yes e ↦ rw (e, hit-refl a) refl
+    | no n ↦ rw (hit-refl a, hit-refl b, hit-miss b a n) refl
+  ]
+
+  pub firsts-again : firsts (a ∷ b ∷ a ∷ b ∷ []) ≡ firsts (a ∷ b ∷ [])
+  unfolding firsts
+  firsts-again = elim (ℕ-discrete b a) [
+    | yes e ↦ rw (e, hit-refl a) refl
+    | no n ↦ rw (hit-refl a, hit-refl b, hit-miss b a n, hit-miss a b (λ z. n (sym z))) refl
+  ]
+
+  pub alike-doubled : Alike (a ∷ a ∷ b ∷ b ∷ []) (a ∷ b ∷ [])
+  alike-doubled x = (λ h. omega arith, λ h. omega arith)
+
+  pub alike-again : Alike (a ∷ b ∷ a ∷ b ∷ []) (a ∷ b ∷ [])
+  alike-again x = (λ h. omega arith, λ h. omega arith)

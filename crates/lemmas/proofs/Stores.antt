@@ -5,7 +5,7 @@ use mathlib.Core.List.{List, [], _∷_, _++_, append-assoc}
 use Prim.Native.Nat.{ℕ, zero, suc, _+_, _≤_}
 use native.Mathlib.Omega.{arith}
 use lib.ListN.{length, getD, drop, set, length-append}
-use lib.Seq.{sets, length-sets, drop-cons}
+use lib.Seq.{sets, sets-eq, length-sets, drop-cons}
 use Rattle.lemmas.specs.Stores.{Put, PutBefore}
 
 pub drop-four : (l : List ℕ) (i : ℕ) → i + 4 ≤ length l → drop i l ≡ getD l i 0 ∷ getD l (i + 1) 0 ∷ getD l (i + 2) 0 ∷ getD l (i + 3) 0 ∷ drop (i + 4) l
@@ -41,6 +41,13 @@ put-then {o} {e} {f} {at} {q} {r} {a} {b} k m = record {
   output = m .output ∙ ap₂ (λ (l : List ℕ) (n : ℕ). sets l n b) (k .output) (k .place) ∙ sym (sets-append o at a b);
   place = omega (arith, k .place, m .place, length-append a b);
 }
+
+-- two parts from the start on, and what was there behind them
+pub put-from-start : {o e f : List ℕ} {q : ℕ} {a : List ℕ} (b : List ℕ) → Put o e 0 a q → f ≡ sets e q b → length (a ++ b) ≤ length o → f ≡ (a ++ b) ++ drop (length (a ++ b)) o
+put-from-start {o} {e} {f} {q} {a} b k g h =
+    let zero-add : 0 + length (a ++ b) ≡ length (a ++ b) = omega arith in
+    g ∙ ap₂ (λ (x : List ℕ) (y : ℕ). sets x y b) (k .output) (k .place) ∙ sym (sets-append o 0 a b)
+    ∙ sets-eq (a ++ b) o 0 (omega arith) ∙ ap (λ (x : ℕ). (a ++ b) ++ drop x o) zero-add
 
 pub put-length : {o e : List ℕ} {at q : ℕ} {a : List ℕ} → Put o e at a q → length e ≡ length o
 put-length {o} {e} {at} {q} {a} k = ap length (k .output) ∙ length-sets o at a

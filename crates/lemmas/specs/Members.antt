@@ -25,3 +25,11 @@ Ascending (x ∷ l) = AllAbove x l × Ascending l
 -- the two lists have the same members, however often
 abbrev pub Alike : List ℕ → List ℕ → Type 0
 Alike l m = (x : ℕ) → (x among l) ↔ (x among m)
+
+-- the list without repeats, each number at its first place; of a list behind others, those that have not been seen there
+abbrev pub firstsPast : List ℕ → List ℕ → List ℕ
+firstsPast seen [] = []
+firstsPast seen (x ∷ l) = let rest = firstsPast (x ∷ seen) l in cond (eqb (occ x seen) 0) (x ∷ rest) rest
+
+unfoldable pub firsts : List ℕ → List ℕ
+firsts l = firstsPast [] l

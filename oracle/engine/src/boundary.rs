@@ -19,6 +19,7 @@ extern "C" {
     fn holdlist_file_write(settings: *const Settings, table: *const u16, cells: usize, out: *mut u8, room: usize) -> i64;
     fn holdlist_file_settings(bytes: *const u8, length: usize, settings: *mut Settings) -> i64;
     fn holdlist_file_read(bytes: *const u8, length: usize, table: *mut u16, cells: usize, settings: *mut Settings) -> i64;
+    fn holdlist_file_convert(bytes: *const u8, length: usize, out: *mut u8, room: usize) -> i64;
     fn holdlist_packed_write(settings: *const Settings, table: *const u16, cells: usize, out: *mut u8, room: usize) -> i64;
     fn holdlist_packed_read(settings: *const Settings, bytes: *const u8, length: usize, table: *mut u16, cells: usize) -> i64;
 }
@@ -179,6 +180,18 @@ impl Engine {
                 self.place_mut(table),
                 table.len(),
                 settings.as_mut_ptr().cast(),
+            )
+        }
+    }
+
+    #[inline]
+    pub fn file_convert(self, bytes: &[u8], out: &mut [u8]) -> i64 {
+        unsafe {
+            holdlist_file_convert(
+                self.place(bytes),
+                bytes.len(),
+                self.place_mut(out),
+                out.len(),
             )
         }
     }

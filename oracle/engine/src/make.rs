@@ -16,14 +16,14 @@ pub fn one_of<T: Copy>(mix: &mut Mix, list: &[T]) -> T {
     list[mix.below(list.len() as u64) as usize]
 }
 
-/// A mask for so many buckets.
+/// A mask that does work for so many buckets, which are four or more.
 pub fn mask(mix: &mut Mix, buckets: u32) -> u32 {
     match mix.below(5) {
-        0 => 0,
-        1 => buckets - 1,
-        2 => 1 % buckets,
+        0 => 1,
+        1 => buckets - 2,
+        2 => buckets / 2 - 1,
         3 => buckets / 2,
-        _ => mix.below(buckets.into()),
+        _ => 1 + mix.below(u64::from(buckets) - 2),
     }
 }
 
@@ -46,17 +46,21 @@ pub fn some_salt(mix: &mut Mix) -> u64 {
     }
 }
 
-/// Good settings of at most 2^`log` buckets.
+/// Good settings of at most 2^`log` buckets, from four on.
 pub fn settings(mix: &mut Mix, log: u32) -> Settings {
     let salt = salt(mix);
     unsalted(mix, log).with_salt(salt)
 }
 
-fn unsalted(mix: &mut Mix, log: u32) -> Settings {
-    let width = match mix.below(3) {
+fn width(mix: &mut Mix) -> u32 {
+    match mix.below(3) {
         0 => one_of(mix, &[4, 12, 16]),
         _ => 4 + mix.below(13),
-    };
+    }
+}
+
+fn unsalted(mix: &mut Mix, log: u32) -> Settings {
+    let width = width(mix);
     let power = 1 << mix.below(u64::from(log) + 1);
     match mix.below(3) {
         PLAIN => Settings::new(PLAIN, width, power, 0),
@@ -64,8 +68,20 @@ fn unsalted(mix: &mut Mix, log: u32) -> Settings {
             let half = 1 + mix.below(u64::from(power.max(2) / 2));
             Settings::new(RING, width, 2 * half, 0)
         }
-        _ => Settings::new(MASKED, width, power, mask(mix, power)),
+        _ => {
+            // One bucket or two have no mask that does work.
+            let power = 4 << mix.below(u64::from(log) - 1);
+            Settings::new(MASKED, width, power, mask(mix, power))
+        }
     }
+}
+
+/// Settings of at most 2^`log` buckets whose mask does no work.
+pub fn former_settings(mix: &mut Mix, log: u32) -> Settings {
+    let (salt, width) = (salt(mix), width(mix));
+    let buckets = 1 << mix.below(u64::from(log) + 1);
+    let mask = one_of(mix, &[0, buckets - 1]);
+    Settings::new(MASKED, width, buckets, mask).with_salt(salt)
 }
 
 /// A tag of the i-th kind, so that a history has repeats.
@@ -132,9 +148,11 @@ pub fn spoil(mix: &mut Mix, mut s: Settings) -> Settings {
                 }
             }
             _ => {
-                s.mask = match mix.below(3) {
+                s.mask = match mix.below(4) {
                     0 => s.buckets,
                     1 => s.buckets.wrapping_add(1 + mix.below(9)),
+                    // Under the masked rule it does no work.
+                    2 => one_of(mix, &[0, s.buckets.wrapping_sub(1)]),
                     _ => one_of(mix, &[1, 65_535, 65_536, 1 << 31, u32::MAX]),
                 }
             }

@@ -25,6 +25,7 @@ pub enum Call<'a> {
     View(u32),
     FileWrite,
     FileRead,
+    FileConvert,
     PackedWrite,
     PackedRead,
 }
@@ -135,7 +136,7 @@ pub struct Pair {
     input: Twin<u8>,
     out: Twin<u8>,
     calls: u64,
-    refused: [u64; 24],
+    refused: [u64; 25],
 }
 
 impl Pair {
@@ -152,7 +153,7 @@ impl Pair {
             out: Twin::new(0, EDGE, || 0),
             mix,
             calls: 0,
-            refused: [0; 24],
+            refused: [0; 25],
         };
         pair.size(0, 0, 0);
         pair
@@ -296,6 +297,12 @@ impl Pair {
                 });
                 (engine.file_read(my_input, mine, few_engine), expected)
             }
+            Call::FileConvert => {
+                let (my_input, input) = self.input.parts(lend.input);
+                let (my_out, out) = self.out.parts(lend.room);
+                let expected = number(holdfile::convert(input, out), |n| n as i64);
+                (engine.file_convert(my_input, my_out), expected)
+            }
             Call::PackedWrite => {
                 let (mine, other) = self.table.parts(lend.cells);
                 let (my_out, out) = self.out.parts(lend.room);
@@ -325,6 +332,10 @@ impl Pair {
                 Call::Hold(_) => self.scratch.difference("word of scratch"),
                 Call::FileWrite | Call::PackedWrite => self.out.difference("byte of the output"),
                 Call::FileRead | Call::PackedRead => self.input.difference("byte of the input"),
+                Call::FileConvert => self
+                    .input
+                    .difference("byte of the input")
+                    .or_else(|| self.out.difference("byte of the output")),
                 _ => None,
             });
         if let Some(difference) = difference {

@@ -17,7 +17,7 @@ fn settings_grid() {
     for rule in [0, 1, 2, 3, 4, 256, 1 << 31, u32::MAX] {
         for width in [0, 3, 4, 5, 12, 15, 16, 17, 32, u32::MAX] {
             for &buckets in &counts {
-                let around = [buckets.wrapping_sub(1), buckets, buckets.wrapping_add(1)];
+                let around = [2, 1, 0, u32::MAX].map(|less| buckets.wrapping_sub(less));
                 for mask in [0, 1, 65_535, u32::MAX].into_iter().chain(around) {
                     let s = Settings::new(rule, width, buckets, mask);
                     let answer = pair.run(Lend::of(s), Call::Check);
@@ -36,9 +36,9 @@ fn settings_grid() {
 fn known_strings() {
     let mut pair = Pair::new("known strings");
     for known in KNOWN {
-        for rule in [PLAIN, RING, MASKED] {
+        for (rule, mask) in [(PLAIN, 0), (RING, 0), (MASKED, 0xff)] {
             for width in 4..=16 {
-                let s = Settings::new(rule, width, 65_536, 0);
+                let s = Settings::new(rule, width, 65_536, mask);
                 for salt in [0, salt(&mut pair.mix)] {
                     let lend = Lend::of(s.with_salt(salt));
                     pair.run(lend, Call::Fingerprint(&known.bytes()));
@@ -70,6 +70,10 @@ fn tags() {
         Settings::new(PLAIN, 3, 8, 0),
         Settings::new(RING, 12, 7, 0),
         Settings::new(MASKED, 12, 8, 8),
+        Settings::new(MASKED, 12, 8, 7),
+        Settings::new(MASKED, 12, 8, 0),
+        Settings::new(MASKED, 12, 2, 1),
+        Settings::new(MASKED, 12, 1, 0),
     ] {
         for length in [0, 1, 64, 65] {
             let (tag, salt) = (pair.mix.bytes(length), salt(&mut pair.mix));
@@ -115,8 +119,8 @@ fn fingerprints() {
             for (met, edge) in met.iter_mut().zip(edges) {
                 *met |= edge;
             }
-            for (rule, buckets) in [(PLAIN, 1), (RING, 6), (MASKED, 65_536)] {
-                let lend = Lend::of(Settings::new(rule, width, buckets, 0));
+            for (rule, buckets, mask) in [(PLAIN, 1, 0), (RING, 6, 0), (MASKED, 65_536, 1)] {
+                let lend = Lend::of(Settings::new(rule, width, buckets, mask));
                 let answer = pair.run(lend, Call::Fingerprint(&tag));
                 assert_eq!(answer, by_word(hash, width), "{tag:?} {width}");
                 assert!((1..=last.into()).contains(&answer));
@@ -383,7 +387,9 @@ fn empty_buffers() {
         expect(Lend { words: 0, ..whole }, Call::Hold(&tag), -6);
         expect(Lend { words: 0, ..whole }, Call::Hold(&[]), -6);
         expect(none, Call::FileRead, -11);
+        expect(none, Call::FileConvert, -11);
         expect(whole.input(0), Call::FileRead, -11);
+        expect(whole.input(0), Call::FileConvert, -11);
         expect(whole.input(0), Call::PackedRead, -11);
         expect(whole.room(0), Call::FileWrite, -16);
         expect(whole.room(0), Call::PackedWrite, -16);
@@ -393,6 +399,12 @@ fn empty_buffers() {
         assert_eq!(pair.run(none.input(6), Call::FileRead), -5);
         assert_eq!(pair.run(whole.input(6), Call::FileRead), 0);
         assert_eq!(pair.table()[..8], [0; 8]);
+        // No table is lent to be converted from, and no room to be converted to.
+        assert_eq!(pair.run(none.input(6), Call::FileConvert), -24);
+        pair.set_input(0, &[0x2f, 2, 4, 1, 0, 1, 0, 0, 0]);
+        assert_eq!(pair.run(none.input(9), Call::FileConvert), -16);
+        assert_eq!(pair.run(none.input(9).room(6), Call::FileConvert), 6);
+        assert_eq!(pair.out()[..6], [0x26, 4, 1, 0, 0, 0]);
     }
-    pair.done(&[5, 6, 7, 11, 16]);
+    pair.done(&[5, 6, 7, 11, 16, 24]);
 }

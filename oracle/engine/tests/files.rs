@@ -4,6 +4,7 @@ use engine::make::{cells, damage, long, one_of, settings, some_salt, Cells};
 use engine::pair::{Call, Lend, Pair};
 use oracle::holdfile::{self, HEAD};
 use oracle::index::{Settings, MASKED, PLAIN, RING};
+use oracle::requests::masks;
 
 /// More cells and bytes than a file asks for.
 const SPARE: usize = 8;
@@ -26,18 +27,19 @@ fn some_file(pair: &mut Pair, s: Settings, kind: Cells) -> Vec<u8> {
     file(s, &table)
 }
 
-/// Files for each rule, width and bucket count, refused where the count does not fit the rule.
+/// Files for each rule, width and bucket count, refused where the count does not fit the rule or the
+/// mask does no work.
 #[test]
 fn shapes() {
     let mut pair = Pair::new("file shapes");
     for rule in [PLAIN, RING, MASKED] {
         for width in 4..=16 {
-            for buckets in [1, 2, 6, 16, 4_096, 65_536] {
+            for buckets in [1, 2, 4, 6, 16, 4_096, 65_536] {
                 if buckets > 16 && ![4, 12, 16].contains(&width) {
                     continue;
                 }
                 let masks = match rule {
-                    MASKED => vec![0, 1, buckets / 2, buckets - 1],
+                    MASKED => [&[0, buckets - 1][..], &masks(buckets)].concat(),
                     _ => vec![0],
                 };
                 for mask in masks {
@@ -112,7 +114,7 @@ fn truncations() {
         all.push(Settings::new(PLAIN, width, 1, 0));
         all.push(Settings::new(PLAIN, width, 16, 0));
         all.push(Settings::new(RING, width, 6, 0));
-        all.push(Settings::new(MASKED, width, 1, 0));
+        all.push(Settings::new(MASKED, width, 4, 1));
         all.push(Settings::new(MASKED, width, 8, 5));
     }
     all.push(Settings::new(PLAIN, 12, 4_096, 0));
@@ -123,7 +125,7 @@ fn truncations() {
         all.push(Settings::new(PLAIN, 12, 4_096, 0).with_salt(salt));
         all.push(Settings::new(PLAIN, 4, 1, 0).with_salt(salt));
         all.push(Settings::new(RING, 12, 6, 0).with_salt(salt));
-        all.push(Settings::new(MASKED, 12, 8, i as u32).with_salt(salt));
+        all.push(Settings::new(MASKED, 12, 8, 1 + i as u32).with_salt(salt));
     }
     for s in all {
         open(&mut pair, s);
@@ -152,7 +154,7 @@ fn truncations() {
     for s in [
         Settings::new(PLAIN, 16, 65_536, 0),
         Settings::new(RING, 12, 65_534, 0),
-        Settings::new(MASKED, 4, 65_536, 0xffff),
+        Settings::new(MASKED, 4, 65_536, 0xfffe),
     ] {
         open(&mut pair, s);
         let bytes = some_file(&mut pair, s, Cells::Random(95));
@@ -182,14 +184,14 @@ fn single_byte_changes() {
         Settings::new(RING, 12, 2, 0),
         Settings::new(RING, 16, 6, 0),
         Settings::new(RING, 4, 6, 0),
-        Settings::new(MASKED, 12, 1, 0),
-        Settings::new(MASKED, 5, 4, 3),
+        Settings::new(MASKED, 12, 4, 1),
+        Settings::new(MASKED, 5, 4, 2),
         Settings::new(MASKED, 16, 8, 5),
         // Of one bit, so that a byte that is changed makes it 0.
         Settings::new(PLAIN, 4, 1, 0).with_salt(1),
         Settings::new(RING, 12, 2, 0).with_salt(1 << 63),
         Settings::new(RING, 4, 6, 0).with_salt(u64::MAX),
-        Settings::new(MASKED, 5, 4, 3).with_salt(0x0123_4567_89ab_cdef),
+        Settings::new(MASKED, 5, 4, 2).with_salt(0x0123_4567_89ab_cdef),
     ] {
         open(&mut pair, s);
         for kind in [Cells::Empty, Cells::Random(60), Cells::Full] {
@@ -212,8 +214,8 @@ fn single_byte_changes() {
 fn map_bytes() {
     let rules: [u8; 5] = [0, 1, 2, 3, 255];
     let widths: [u8; 9] = [0, 3, 4, 11, 12, 13, 16, 17, 255];
-    let counts: [u16; 6] = [0, 1, 5, 4_094, 4_095, 65_535];
-    let masks: [u16; 5] = [0, 1, 5, 4_095, 65_535];
+    let counts: [u16; 7] = [0, 1, 3, 5, 4_094, 4_095, 65_535];
+    let masks: [u16; 7] = [0, 1, 3, 5, 4_094, 4_095, 65_535];
     let salts: [u64; 4] = [0, 1, 1 << 56, 0x0123_4567_89ab_cdef];
     /// Each of the fields, or none where the bit does not stand.
     fn fields<T: Copy>(map: u8, bit: u8, list: &[T], bytes: impl Fn(T) -> Vec<u8>) -> Vec<Vec<u8>> {
@@ -249,10 +251,10 @@ fn map_bytes() {
         }
     }
     assert!(accepted >= 400, "{accepted}");
-    pair.done(&[1, 2, 3, 4, 5, 11, 12, 23]);
+    pair.done(&[1, 2, 3, 4, 5, 11, 12, 23, 24]);
 }
 
-/// Reads a head followed by so many empty buckets, and says how often that went well.
+/// Reads and converts a head followed by so many empty buckets, and says how often it was read.
 fn heads(pair: &mut Pair, head: &[u8], buckets: u32) -> u32 {
     let good = Settings::new(PLAIN, 12, buckets, 0);
     let lend = Lend::of(good);
@@ -279,8 +281,14 @@ fn heads(pair: &mut Pair, head: &[u8], buckets: u32) -> u32 {
     };
     let wrong = pair.run(short.input(length), Call::FileRead);
     let answer = pair.run(lend.input(length), Call::FileRead);
+    let converted = pair.run(lend.input(length).room(length), Call::FileConvert);
     if let Some(number) = early {
-        assert_eq!((wrong, answer), (number, number), "{head:?}");
+        assert_eq!([wrong, answer, converted], [number; 3], "{head:?}");
+    }
+    // A file is either read or converted.
+    match (answer, converted) {
+        (0, -24) | (-4, 1..) => {}
+        _ => assert_eq!(answer, converted, "{head:?}"),
     }
     u32::from(answer == 0)
 }
@@ -293,7 +301,7 @@ fn order_of_checks() {
     let salted = [
         0x36, 4, 0, 0, 0xef, 0xcd, 0xab, 0x89, 0x67, 0x45, 0x23, 0x01, 0x0a, 9, 0, 3, 0,
     ];
-    let cases: [(&[u8], usize, i64); 87] = [
+    let cases: [(&[u8], usize, i64); 99] = [
         (&[0x26, 4, 0, 0, 0x0a, 9, 0, 3, 0], 4, 0),
         (&salted, 4, 0),
         (&salted[..16], 4, 11),
@@ -366,6 +374,19 @@ fn order_of_checks() {
         (&[0x25, 1, 2, 0], 0, 3),
         (&[0x2d, 2, 1, 0, 9, 0], 0, 4),
         (&[0x2d, 2, 1, 0, 2, 0], 0, 4),
+        // A mask that does no work, after the bucket count and before the table.
+        (&[0x2d, 2, 2, 0, 0, 0], 12, 3),
+        (&[0x2d, 2, 2, 0, 2, 0], 12, 3),
+        (&[0x2d, 2, 0, 0, 0, 0, 0], 4, 4),
+        (&[0x2d, 2, 1, 0, 0, 0, 0, 0], 8, 4),
+        (&[0x2d, 2, 1, 0, 1, 0, 0, 0], 8, 4),
+        (&[0x2d, 2, 3, 0, 0, 0, 0, 0, 0, 0], 16, 4),
+        (&[0x2d, 2, 3, 0, 3, 0, 0, 0, 0, 0], 16, 4),
+        (&[0x2d, 2, 3, 0, 1, 0, 0, 0, 0, 0], 16, 0),
+        (&[0x2d, 2, 3, 0, 3, 0, 0xff], 0, 4),
+        (&[0x29, 2, 0, 0], 0, 4),
+        (&[0x29, 2, 0xff, 0x0f], 0, 4),
+        (&[0x29, 2, 0xfe, 0x0f], 0, 5),
         (&[0x26, 4, 0, 0], 5, 5),
         (&[0x26, 4, 0, 0, 0xff], 0, 5),
         (&[0x26, 4, 1, 0], 8, 11),
@@ -408,6 +429,8 @@ fn order_of_checks() {
     write(&mut pair, Settings::new(PLAIN, 3, 3, 3), 3, 0, 2);
     write(&mut pair, Settings::new(PLAIN, 4, 3, 3), 3, 0, 3);
     write(&mut pair, Settings::new(PLAIN, 4, 2, 3), 3, 0, 4);
+    write(&mut pair, Settings::new(MASKED, 4, 2, 0), 3, 0, 4);
+    write(&mut pair, Settings::new(MASKED, 4, 4, 3), 16, 64, 4);
     write(&mut pair, Settings::new(PLAIN, 4, 2, 0), 3, 0, 5);
     write(&mut pair, Settings::new(PLAIN, 4, 2, 0), 8, 0, 17);
     write(&mut pair, Settings::new(PLAIN, 7, 2, 0), 8, 0, 16);

@@ -259,7 +259,7 @@ fn large() {
         Settings::new(RING, 12, 4_094, 0),
         Settings::new(MASKED, 16, 65_536, 0x00ff),
         Settings::new(MASKED, 12, 65_536, mask(&mut pair.mix, 65_536)),
-        Settings::new(MASKED, 12, 4_096, 0),
+        Settings::new(MASKED, 12, 4_096, 1),
         Settings::new(RING, 12, 65_534, 0).with_salt(0x0123_4567_89ab_cdef),
     ];
     all.extend((0..4 * long()).map(|_| settings(&mut pair.mix, 16)));

@@ -6,7 +6,7 @@ use engine::make::{long, one_of, salt, spoil, tag};
 use engine::seed;
 use oracle::index::{Answer, Settings, MASKED, PLAIN, RING};
 use oracle::model::{Class, Model};
-use oracle::requests::Mix;
+use oracle::requests::{masks, Mix};
 
 const NAME: &str = "reference model";
 
@@ -189,15 +189,8 @@ fn all_settings(width: u32) -> Vec<Settings> {
     for buckets in [1u32, 2, 4, 6, 8, 16, 64] {
         if buckets.is_power_of_two() {
             all.push(Settings::new(PLAIN, width, buckets, 0));
-            let mut masks = vec![0, 1, buckets / 2, buckets / 3, buckets - 1];
-            masks.retain(|&mask| mask < buckets);
-            masks.sort_unstable();
-            masks.dedup();
-            all.extend(
-                masks
-                    .iter()
-                    .map(|&m| Settings::new(MASKED, width, buckets, m)),
-            );
+            let masked = |mask| Settings::new(MASKED, width, buckets, mask);
+            all.extend(masks(buckets).into_iter().map(masked));
         }
         if buckets % 2 == 0 {
             all.push(Settings::new(RING, width, buckets, 0));

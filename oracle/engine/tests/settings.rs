@@ -40,7 +40,7 @@ fn header(bytes: &[u8]) -> Answer<Settings> {
         }
     }
     let [rule, width, less, mask] = [0, 1, 2, 3].map(|field| values[field] as u32);
-    // A mask of 0 is there under rule 2; the others are there where they are not the default.
+    // The mask is there under rule 2, whatever it is; the others are where they are not the default.
     if [0, 1, 2, 4]
         .iter()
         .any(|&field| stands(map, field) && values[field] == DEFAULTS[field])
@@ -124,8 +124,10 @@ impl Held {
 const VALUES: [&[u64]; 5] = [
     &[0, 1, 2, 3, 255],
     &[0, 3, 4, 11, 12, 13, 16, 17, 255],
-    &[0, 1, 2, 5, 7, 4_094, 4_095, 4_096, 65_533, 65_534, 65_535],
-    &[0, 1, 5, 4_095, 4_096, 65_535],
+    &[
+        0, 1, 2, 3, 5, 7, 4_094, 4_095, 4_096, 65_533, 65_534, 65_535,
+    ],
+    &[0, 1, 2, 3, 5, 7, 4_094, 4_095, 4_096, 65_534, 65_535],
     &[0, 1, 1 << 32, 1 << 63, u64::MAX, 0x0123_4567_89ab_cdef],
 ];
 
@@ -187,7 +189,7 @@ fn salts() {
             (0x30, [0, 12, 4_095, 0]),
             (0x32, [0, 4, 4_095, 0]),
             (0x35, [1, 12, 5, 0]),
-            (0x39, [2, 12, 4_095, 0]),
+            (0x39, [2, 12, 4_095, 1]),
             (0x3f, [2, 16, 15, 12]),
         ] {
             let [rule, width, less, mask] = values;
@@ -220,6 +222,49 @@ fn salts() {
     held.done("headers with a salt");
 }
 
+/// Masks at both edges of what is good: nothing of an offset, the least and the greatest part of it,
+/// all of it, and more. Of one bucket and of two none is good, and a bad bucket count comes before.
+#[test]
+fn masks() {
+    let mut held = Held::new("headers with a mask");
+    for log in 0..=16 {
+        let last = (1u64 << log) - 1;
+        for mask in [0, 1, 2, last / 2, last.max(1) - 1, last, last + 1, 65_535] {
+            // In two bytes.
+            if mask > 65_535 {
+                continue;
+            }
+            for (width, salt) in [(12, 0), (4, 0), (16, 1), (12, u64::MAX)] {
+                let values = [2, width, last, mask, salt];
+                let bytes = spelled(map_of(values), values);
+                let good = mask > 0 && mask < last;
+                let answer = if good { 0 } else { -4 };
+                assert_eq!(held.named(&bytes, bytes.len()), answer, "{bytes:02x?}");
+                whole_and_cut(&mut held, map_of(values), values);
+            }
+        }
+    }
+    for less in [2, 4, 5, 6, 4_094, 4_096, 65_533, 65_534] {
+        for mask in [0, 1, less - 1, less, less + 1] {
+            let values = [2, 12, less, mask, 0];
+            let bytes = spelled(map_of(values), values);
+            assert_eq!(held.named(&bytes, bytes.len()), -3, "{bytes:02x?}");
+        }
+    }
+    // The other answers, some of them ahead of such a mask.
+    for (values, number) in [
+        ([3, 12, 4_095, 0, 0], 1),
+        ([0, 3, 4_095, 0, 0], 2),
+        ([2, 3, 3, 3, 0], 2),
+    ] {
+        let bytes = spelled(map_of(values), values);
+        assert_eq!(held.named(&bytes, bytes.len()), -number);
+    }
+    assert_eq!(held.named(&[0x29, 0, 0, 0], 4), -12);
+    assert_eq!(held.named(&[0x09, 2, 0, 0], 4), -23);
+    held.done("headers with a mask");
+}
+
 /// The map that the writer makes of these values.
 fn map_of(values: [u64; 5]) -> u8 {
     let differs = |field: usize| u8::from(values[field] != DEFAULTS[field]) << field;
@@ -239,10 +284,13 @@ fn changed_bytes() {
         [1, 12, 4_095, 0, 0],
         [1, 5, 5, 0, 0],
         [1, 16, 65_533, 0, 0],
-        [2, 12, 4_095, 0, 0],
-        [2, 12, 4_095, 4_095, 0],
-        [2, 4, 0, 0, 0],
+        [2, 12, 4_095, 1, 0],
+        [2, 12, 4_095, 4_094, 0],
+        [2, 4, 3, 2, 0],
         [2, 9, 31, 21, 0],
+        [2, 16, 65_535, 65_534, 0],
+        [2, 12, 4_095, 0, 0],
+        [2, 4, 0, 0, 0],
         [2, 16, 65_535, 65_535, 0],
         [3, 3, 2, 65_535, 0],
         [1, 17, 6, 0, 0],
@@ -251,7 +299,7 @@ fn changed_bytes() {
         [0, 4, 0, 0, 1 << 63],
         [1, 12, 4_095, 0, u64::MAX],
         [1, 5, 5, 0, 0x0123_4567_89ab_cdef],
-        [2, 12, 4_095, 0, 1 << 32],
+        [2, 12, 4_095, 2_048, 1 << 32],
         [2, 9, 31, 21, 0xff00],
         [3, 3, 2, 65_535, 1],
     ] {

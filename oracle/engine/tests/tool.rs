@@ -3,13 +3,15 @@
 //! The tool is `target/bin/gedrunelj`, or what `GEDRUNELJ` names. The seed and the length of the
 //! generated scripts are set as for the other tests.
 
-use engine::make::{cells, damage, long, one_of, settings, some_salt, spoil, tag, Cells};
+use engine::make::{
+    cells, damage, former_settings, long, one_of, settings, some_salt, spoil, tag, Cells,
+};
 use engine::run::{command, talk, tool, Files, Folder, WHOLE};
 use engine::seed::{mix, tell};
 use oracle::holdfile::HEAD;
 use oracle::index::{Settings, MASKED, PLAIN, RING};
 use oracle::requests::{to_hex, Mix};
-use oracle::{holdfile, packed, table};
+use oracle::{former, holdfile, packed, table};
 use std::fs;
 use std::io::{BufRead, BufReader, Write};
 use std::os::unix::fs::{symlink, PermissionsExt};
@@ -24,6 +26,8 @@ const LINE: usize = 65_535;
 const NO_COMMAND: &str = "there is no such command; help names them";
 const NO_TAG: &str = "a tag is missing after the command: text, or hexadecimal digits after 0x";
 const NO_NAME: &str = "the name of a file is missing after the command";
+const NO_NAMES: &str = "convert takes two names of files: \
+                        the one to read, which is a word, and the one to write";
 const NO_BUCKET: &str = "view takes the number of a bucket";
 const FEW_SETTINGS: &str = "settings takes four numbers, RULE WIDTH BUCKETS MASK, \
                             and a salt if one is wanted, or none to tell the present ones";
@@ -197,6 +201,14 @@ fn hold_file(s: Settings, table: &[u16]) -> Vec<u8> {
     bytes
 }
 
+/// The same for settings that were good once, whether they are or not.
+fn former_file(s: Settings, table: &[u16]) -> Vec<u8> {
+    let mut bytes = vec![0; HEAD + 9 * s.buckets as usize];
+    let length = former::write(s, table, &mut bytes).expect("settings that were good");
+    bytes.truncate(length);
+    bytes
+}
+
 fn packed_form(s: Settings, table: &[u16]) -> Vec<u8> {
     let mut bytes = vec![0; 8 * s.buckets as usize];
     let length = packed::write(s, table, &mut bytes).expect("good settings and cells");
@@ -281,6 +293,7 @@ impl List {
             b"clear" | b"stats" | b"help" => (0, 0),
             b"hold" | b"release" | b"lookup" => (1, LINE),
             b"save" | b"load" | b"pack" | b"unpack" => (1, LINE),
+            b"convert" => (2, LINE),
             _ => return self.bad(NO_COMMAND),
         };
         if words.len() < least {
@@ -288,6 +301,7 @@ impl List {
                 b"settings" => FEW_SETTINGS,
                 b"view" => NO_BUCKET,
                 b"hold" | b"release" | b"lookup" => NO_TAG,
+                b"convert" => NO_NAMES,
                 _ => NO_NAME,
             });
         }
@@ -322,6 +336,7 @@ impl List {
             }
             b"save" | b"pack" => self.write(command, rest),
             b"load" | b"unpack" => self.read(command, rest),
+            b"convert" => self.convert(words[0], trimmed(&rest[words[0].len()..])),
             b"clear" => {
                 self.begin(self.settings);
                 Ok("cleared".into())
@@ -422,6 +437,10 @@ impl List {
             b"save" => ("saved", hold_file(self.settings, &self.table)),
             _ => ("packed", packed_form(self.settings, &self.table)),
         };
+        self.keep(what, name, bytes)
+    }
+
+    fn keep(&mut self, what: &str, name: &[u8], bytes: Vec<u8>) -> Said {
         if let Some(fault) = self.write_fault(name) {
             return self.bad(&format!("cannot write {}: {fault}", raw(name)));
         }
@@ -430,20 +449,45 @@ impl List {
         Ok(format!("{what}, {count} bytes"))
     }
 
+    /// The bytes of a file, or why there are none.
+    fn fetch(&self, name: &[u8]) -> Result<Vec<u8>, &'static str> {
+        match (self.path_fault(name), self.files.get(name)) {
+            (Some(fault), _) => Err(fault),
+            (None, None) => Err(NO_FILE),
+            (None, Some(None)) => Err(A_FOLDER),
+            (None, Some(Some(bytes))) => Ok(bytes.clone()),
+        }
+    }
+
+    fn unread(&mut self, name: &[u8], fault: &str) -> Said {
+        self.bad(&format!("cannot read {}: {fault}", raw(name)))
+    }
+
     fn read(&mut self, command: &[u8], name: &[u8]) -> Said {
-        let fault = match (self.path_fault(name), self.files.get(name)) {
-            (Some(fault), _) => fault,
-            (None, None) => NO_FILE,
-            (None, Some(None)) => A_FOLDER,
-            (None, Some(Some(bytes))) => {
-                let bytes = bytes.clone();
+        match self.fetch(name) {
+            Ok(bytes) => {
                 let said = self.read_bytes(command, &bytes);
                 self.lost = said.is_err();
-                return said;
+                said
             }
-        };
-        self.lost = true;
-        self.bad(&format!("cannot read {}: {fault}", raw(name)))
+            Err(fault) => {
+                self.lost = true;
+                self.unread(name, fault)
+            }
+        }
+    }
+
+    /// From one file to another: the list has no part in it.
+    fn convert(&mut self, from: &[u8], to: &[u8]) -> Said {
+        match self.fetch(from) {
+            Ok(bytes) => {
+                let mut out = vec![0; bytes.len()];
+                let length = holdfile::convert(&bytes, &mut out)?;
+                out.truncate(length);
+                self.keep("converted", to, out)
+            }
+            Err(fault) => self.unread(from, fault),
+        }
     }
 
     fn read_bytes(&mut self, command: &[u8], bytes: &[u8]) -> Said {
@@ -582,6 +626,12 @@ fn prepare(mix: &mut Mix, folder: &Folder, log: u32) {
         ] {
             folder.put(&name.replace('.', &format!("{i}.")), &bytes);
         }
+        // Files to convert have names of one word.
+        let s = former_settings(mix, log);
+        let mut bytes = former_file(s, &cells(mix, s, kind));
+        folder.put(&format!("{i}.former"), &bytes);
+        damage(mix, &mut bytes);
+        folder.put(&format!("{i}.damaged"), &bytes);
     }
 }
 
@@ -622,6 +672,11 @@ settings 0 12 4294967304 0\n\
 settings 0 12 8 18446744073709551616\n\
 settings -1 12 8 0\n\
 settings 0 12 8 0,\n\
+settings 2 12 8 0\n\
+settings 2 12 8 7\n\
+settings 2 12 2 1\n\
+settings 2 12 1 0\n\
+settings 2 12 7 6\n\
 view\n\
 view 0 0\n\
 view x\n\
@@ -653,12 +708,28 @@ load none/x\n\
 save 0.hold/x\n\
 unpack 0.hold/x\n\
 load folder/none\n\
+convert\n\
+convert \t\n\
+convert 0.former\n\
+convert 0.former \r\n\
+convertx 0.former x\n\
+convert none x\n\
+convert folder x\n\
+convert none/x x\n\
+convert 0.hold/x x\n\
+convert bad 0.hold\n\
+convert 0.former folder\n\
+convert 0.former none/x\n\
+convert 0.former 0.hold/x\n\
 hold 0x1";
 
 /// The settings but for the salt, as they are typed.
 fn four(s: Settings) -> String {
     format!("{} {} {} {}", s.rule, s.width, s.buckets, s.mask)
 }
+
+/// Names of the script's own files, but for their ends.
+const OWN: [&str; 3] = ["a", "b c", "folder/\u{e4}"];
 
 /// A script as it grows, with what the tool has to say to it.
 struct Maker {
@@ -863,7 +934,7 @@ impl Maker {
     }
 
     fn own_file(&mut self) {
-        let name = one_of(&mut self.mix, &["a", "b c", "folder/\u{e4}"]);
+        let name = one_of(&mut self.mix, &OWN);
         let command = one_of(&mut self.mix, &["save", "load", "pack", "unpack"]);
         let end = match command {
             "save" | "load" => "hold",
@@ -872,8 +943,35 @@ impl Maker {
         self.say_to(command, format!("{name}.{end}"));
     }
 
+    /// From a file of a former list, or from another, to a name of any kind.
+    fn convert(&mut self) {
+        let i = self.mix.below(SETS.into());
+        let ends = [
+            "former", "former", "former", "damaged", "damaged", "hold", "pack",
+        ];
+        let from = match self.mix.below(6) {
+            0 => one_of(&mut self.mix, &["a.hold", "folder/\u{e4}.hold", "none"]).to_string(),
+            _ => format!("{i}.{}", one_of(&mut self.mix, &ends)),
+        };
+        if self.mix.below(4) == 0 {
+            self.say_to("load", from.clone());
+        }
+        let to = match self.mix.below(8) {
+            0 => from.clone(),
+            1 => one_of(&mut self.mix, &["folder", "none/x"]).to_string(),
+            _ => format!("{}.hold", one_of(&mut self.mix, &OWN)),
+        };
+        let between = self.blanks(1);
+        let names = [from.as_bytes(), &between, to.as_bytes()].concat();
+        self.say("convert", &names);
+        self.line(b"stats");
+        if self.mix.below(2) == 0 {
+            self.say_to("load", to);
+        }
+    }
+
     fn step(&mut self, holds: u32) {
-        match self.mix.below(200) {
+        match self.mix.below(203) {
             n if n < holds => {
                 let tag = self.tag();
                 self.say("hold", &tag);
@@ -907,6 +1005,7 @@ impl Maker {
                 let s = spoil(&mut self.mix, self.list.settings);
                 self.say_settings(s);
             }
+            200..=202 => self.convert(),
             _ if self.mix.below(8) == 0 => self.say("clear", b""),
             _ => self.remark(),
         }
@@ -933,8 +1032,8 @@ impl Maker {
 #[test]
 fn random_scripts() {
     let name = "random scripts";
-    let mut refused = [0; 24];
-    let (mut count, mut moves) = (0, 0);
+    let mut refused = [0; 25];
+    let (mut count, mut moves, mut converted) = (0, 0, 0);
     for round in 0..8 * long() {
         let name = format!("{name} {round}");
         let mut mix = mix(&name);
@@ -958,15 +1057,18 @@ fn random_scripts() {
         }
         count += maker.said.len();
         moves = moves.max(maker.moves);
+        let good = |said: &&Said| matches!(said, Ok(line) if line.starts_with("converted, "));
+        converted += maker.said.iter().filter(good).count();
     }
     tell(
         name,
-        &format!(": {count} lines; refused {refused:?}; most moves {moves}"),
+        &format!(": {count} lines; refused {refused:?}; most moves {moves}; {converted} converted"),
     );
-    for n in [1, 2, 3, 4, 7, 8, 9, 11, 12, 13, 14, 15, 18, 19, 20, 23] {
+    for n in [1, 2, 3, 4, 7, 8, 9, 11, 12, 13, 14, 15, 18, 19, 20, 23, 24] {
         assert!(refused[n] > 0, "no line was refused with {n}");
     }
     assert!(moves > 2, "no hold had more than {moves} moves");
+    assert!(converted > 20, "{converted} files were converted");
 }
 
 /// The same script by each way to hand it over.
@@ -986,11 +1088,9 @@ fn every_way() {
     let folder = Folder::new(name);
     prepare(&mut Mix(start), &folder, 6);
     let mut maker = Maker::new(mix, &folder);
-    for rule in [PLAIN, RING, MASKED] {
-        maker.part(
-            Settings::new(rule, 9, 16, 0).with_salt(u64::from(rule)),
-            900,
-        );
+    for (rule, mask) in [(PLAIN, 0), (RING, 0), (MASKED, 6)] {
+        let s = Settings::new(rule, 9, 16, mask);
+        maker.part(s.with_salt(u64::from(rule)), 900);
     }
     // A line that is too long among the others.
     maker.line(&[b'#'; LINE + 10]);
@@ -1359,6 +1459,8 @@ fn day_at_the_yard() {
     let folder = Folder::new("day");
     let earlier = include_bytes!("../../../crates/gedrunelj/data/earlier.hold");
     folder.put("earlier.hold", earlier);
+    let masked = include_bytes!("../../../crates/gedrunelj/data/masked.hold");
+    folder.put("masked.hold", masked);
     let script = include_bytes!("../../../crates/gedrunelj/data/day.txt");
     let answers = check("day at the yard", &folder, script, Way::Argument);
     let stored = include_str!("../../../crates/gedrunelj/stdout");
@@ -1370,6 +1472,7 @@ fn day_at_the_yard() {
 fn meanings() {
     let folder = Folder::new("meanings");
     let file = hold_file(Settings::new(PLAIN, 4, 1, 0), &[0, 9, 0, 3]);
+    folder.put("sound", &file);
     folder.put("short", &file[..8]);
     folder.put("head", &with(&file, 0, &[0x66]));
     folder.put("early", &with(&file, 0, &[0x06]));
@@ -1396,6 +1499,7 @@ fn meanings() {
         ("unpack order", 19),
         ("unpack end", 20),
         ("load early", 23),
+        ("convert sound f", 24),
     ];
     let mut script = vec!["settings 0 6 1 0"];
     script.extend(["hold a"; 4]);
@@ -1419,11 +1523,12 @@ fn help_names_every_command() {
     assert_eq!(answers[0], answers[1]);
     for command in [
         "settings", "hold", "release", "lookup", "view", "clear", "save", "load", "pack", "unpack",
-        "stats", "help",
+        "convert", "stats", "help",
     ] {
         let named = |word: &str| word.trim_matches(&[',', ';'][..]) == command;
         assert!(answers[0].split(' ').any(named), "{command}");
     }
+    assert!(answers[0].contains(", unpack FILE, convert FROM TO, "));
 }
 
 // ── the largest lists ──
@@ -1542,6 +1647,7 @@ fn files_that_cannot_be_had() {
     folder.add_folder("folder/filled");
     folder.put("folder/filled/f", b"here before");
     folder.put("empty", b"");
+    folder.put("former", &FORMER);
     let mut script = vec!["settings 0 12 8 0", "hold a", "stats"];
     for line in [
         "save folder",
@@ -1558,6 +1664,17 @@ fn files_that_cannot_be_had() {
         "load empty/f",
         "load empty",
         "unpack empty",
+        "convert none f",
+        "convert folder f",
+        "convert none/f f",
+        "convert empty/f f",
+        "convert empty f",
+        "convert former folder",
+        "convert former folder/filled",
+        "convert former none/f",
+        "convert former empty/f",
+        "convert folder folder",
+        "convert empty folder",
     ] {
         script.extend([line, "stats", "lookup a"]);
     }
@@ -1566,19 +1683,28 @@ fn files_that_cannot_be_had() {
     script.extend(["save folder/f", "load folder/f", "lookup a"]);
     let answers = check_lines("no files", &folder, &script);
     let stats = "entries 1, buckets 8, load 3.1 %, longest relocation 0";
-    assert_eq!(answers.iter().filter(|&line| line == stats).count(), 15);
+    assert_eq!(answers.iter().filter(|&line| line == stats).count(), 26);
     assert_eq!(answers[3], "line 4: cannot write folder: it is a folder");
     assert_eq!(
         answers[21],
         "line 22: cannot read none: there is no such file or folder"
     );
     assert_eq!(answers[27], "line 28: cannot read folder: it is a folder");
+    assert_eq!(
+        answers[45],
+        "line 46: cannot read none: there is no such file or folder"
+    );
+    assert_eq!(answers[60], "line 61: cannot write folder: it is a folder");
+    // What is read comes before what is written.
+    assert_eq!(answers[72], "line 73: cannot read folder: it is a folder");
+    assert!(answers[75].starts_with("refused 11: "), "{}", answers[75]);
     let names = [
         "empty",
         "folder",
         "folder/f",
         "folder/filled",
         "folder/filled/f",
+        "former",
     ];
     assert_eq!(folder.names(), names);
 }
@@ -1592,27 +1718,32 @@ fn names_that_cannot_be() {
     // The unfinished file's name is five bytes longer.
     let (fits, too_long) = ("m".repeat(250), "m".repeat(251));
     folder.put(&too_long, b"here before");
+    folder.put("former", &FORMER);
     let mut script = vec![];
     let names = ["a\0b", &long, &longer];
-    for command in ["save", "pack"] {
+    for command in ["save", "pack", "convert former"] {
         script.extend(names.map(|name| format!("{command} {name}")));
     }
     script.push(format!("save {too_long}"));
+    script.push(format!("convert former {too_long}"));
     script.push(format!("save {fits}"));
     for command in ["load", "unpack"] {
         script.extend(names.map(|name| format!("{command} {name}")));
     }
+    script.extend(names.map(|name| format!("convert {name} {too_long}")));
     script.push(format!("load {fits}"));
+    script.push(format!("convert former {fits}"));
     let whole = script.join("\n");
-    let got = run(&folder, whole.as_bytes(), Way::Input(WHOLE), &counts(0, 13));
+    let got = run(&folder, whole.as_bytes(), Way::Input(WHOLE), &counts(0, 20));
     let got = String::from_utf8(got).expect("text");
     let answers: Vec<&str> = got.lines().collect();
     assert_eq!(answers.len(), script.len());
     for (i, (line, answer)) in script.iter().zip(&answers).enumerate() {
-        let (command, name) = line.split_once(' ').expect("two words");
-        let what = match command {
-            "save" | "pack" => "write",
-            _ => "read",
+        let words: Vec<&str> = line.split(' ').collect();
+        let (what, name) = match words[..] {
+            ["save" | "pack", name] => ("write", name),
+            ["convert", "former", name] => ("write", name),
+            _ => ("read", words[1]),
         };
         let reason = match name {
             "a\0b" => "the name is not one of a file",
@@ -1621,9 +1752,10 @@ fn names_that_cannot_be() {
         let expected = format!("line {}: cannot {what} {name}: {reason}", i + 1);
         assert!(name == fits || *answer == expected, "{answer}");
     }
-    assert_eq!(answers[7], "saved, 4097 bytes");
-    assert!(answers[14].starts_with("loaded, 0 entries, "));
-    assert_eq!(folder.names(), [&fits[..], &too_long]);
+    assert_eq!(answers[11], "saved, 4097 bytes");
+    assert!(answers[21].starts_with("loaded, 0 entries, "));
+    assert_eq!(answers[22], "converted, 9 bytes");
+    assert_eq!(folder.names(), ["former", &fits[..], &too_long]);
     assert_eq!(folder.get(&too_long), b"here before");
 }
 
@@ -1633,13 +1765,15 @@ fn read_only_folder() {
     folder.add_folder("shut");
     folder.put("shut/f", b"here before");
     folder.put("hidden", b"here before");
+    folder.put("former", &FORMER);
     let mode = |name: &str, mode: u32| {
         fs::set_permissions(folder.path(name), fs::Permissions::from_mode(mode)).expect("a mode")
     };
     mode("shut", 0o555);
     mode("hidden", 0o000);
     let bound = fs::write(folder.path("shut/try"), b"").is_err();
-    let script = b"save shut/f\npack shut/g\nload hidden\nstats\n";
+    let script = b"save shut/f\npack shut/g\nload hidden\nstats\n\
+                   convert former shut/f\nconvert hidden f\nconvert former shut/g\n";
     let got = talk(&mut command(&folder), script, WHOLE);
     mode("shut", 0o755);
     mode("hidden", 0o644);
@@ -1653,10 +1787,13 @@ fn read_only_folder() {
     let expected = "line 1: cannot write shut/f: permission denied\n\
                     line 2: cannot write shut/g: permission denied\n\
                     line 3: cannot read hidden: permission denied\n\
-                    entries 0, buckets 4096, load 0.0 %, longest relocation 0\n";
+                    entries 0, buckets 4096, load 0.0 %, longest relocation 0\n\
+                    line 5: cannot write shut/f: permission denied\n\
+                    line 6: cannot read hidden: permission denied\n\
+                    line 7: cannot write shut/g: permission denied\n";
     assert_eq!(String::from_utf8_lossy(&got.stdout), expected);
-    assert_eq!(String::from_utf8_lossy(&got.stderr), counts(0, 3));
-    assert_eq!(folder.names(), ["hidden", "shut", "shut/f"]);
+    assert_eq!(String::from_utf8_lossy(&got.stderr), counts(0, 6));
+    assert_eq!(folder.names(), ["former", "hidden", "shut", "shut/f"]);
     assert_eq!(folder.get("shut/f"), b"here before");
 }
 
@@ -1674,8 +1811,8 @@ fn files_of_other_lists() {
         Settings::new(MASKED, 12, 8, 3),
         // Forms that are as long as others, of other widths.
         Settings::new(PLAIN, 5, 8, 0),
-        Settings::new(PLAIN, 9, 4, 0),
-        Settings::new(MASKED, 16, 1, 0),
+        Settings::new(MASKED, 9, 4, 2),
+        Settings::new(PLAIN, 16, 1, 0),
         // The first one again, with a salt.
         Settings::new(PLAIN, 12, 8, 0).with_salt(2_027),
     ];
@@ -1705,6 +1842,12 @@ fn files_of_other_lists() {
     assert!(answers[12 * 5 + 3].starts_with("unpacked, "));
 }
 
+/// Lines that show all that is known of a list.
+fn look(buckets: u32) -> String {
+    let views: String = (0..buckets).map(|i| format!("view {i}\n")).collect();
+    format!("stats\n{views}")
+}
+
 /// A file that is refused leaves the list and what is known of it alone, and the list is not written until there is another.
 #[test]
 fn damaged_files() {
@@ -1716,11 +1859,7 @@ fn damaged_files() {
     for i in 0..36 {
         script += &format!("hold {i}\n");
     }
-    let look = || {
-        let views: String = (0..10).map(|i| format!("view {i}\n")).collect();
-        format!("stats\n{views}")
-    };
-    script += &look();
+    script += &look(10);
     script += "save before.hold\npack before.pack\n";
     let table = cells(&mut mix, s, Cells::Random(70));
     let mut bad = vec![];
@@ -1754,7 +1893,7 @@ fn damaged_files() {
         } else {
             "unpack"
         };
-        script += &format!("{command} {file}\n{}", look());
+        script += &format!("{command} {file}\n{}", look(10));
         script += "save after.hold\npack after.pack\n";
     }
     let answers = check(name, &folder, script.as_bytes(), Way::Input(WHOLE));
@@ -1790,6 +1929,7 @@ fn saved_over() {
     let folder = Folder::new(name);
     folder.put("f", &mix.bytes(600_000));
     folder.put("g", b"");
+    folder.put("h", &FORMER);
     let answers = check_lines(
         name,
         &folder,
@@ -1811,12 +1951,17 @@ fn saved_over() {
             "save f",
             "save f",
             "pack g",
+            "convert h i",
+            "save i",
+            "convert h i",
+            "convert h h",
         ],
     );
     assert_eq!(answers[14], "saved, 7 bytes");
     assert_eq!(folder.get("f"), [0x26, 4, 0, 0, 1, 2, 0]);
     assert_eq!(folder.get("g").len(), 2);
-    assert_eq!(folder.names(), ["f", "g"]);
+    assert_eq!([folder.get("h"), folder.get("i")], [CONVERTED; 2]);
+    assert_eq!(folder.names(), ["f", "g", "h", "i"]);
 }
 
 #[test]
@@ -1826,6 +1971,8 @@ fn unfinished_files() {
     folder.put("f.tmp0", b"in the way");
     folder.put("f.tmp2", b"not in the way");
     folder.put("none.tmp0", b"in the way");
+    folder.put("former", &FORMER);
+    folder.put("former.tmp0", b"in the way");
     for digit in 0..10 {
         folder.put(&format!("ten.tmp{digit}"), b"in the way");
         folder.put(&format!("nine.tmp{digit}"), b"in the way");
@@ -1838,14 +1985,17 @@ fn unfinished_files() {
     let link = folder.path("link.tmp0");
     symlink("elsewhere", &link).expect("a link");
     let script = b"settings 0 12 8 0\nhold a\nsave f\npack none\nsave ten\npack ten\nstats\n\
-                   save nine\nsave folder\nsave link\nload f\n";
-    let got = run(&folder, script, Way::Input(WHOLE), &counts(0, 3));
+                   save nine\nsave folder\nsave link\nload f\n\
+                   convert former ten\nconvert former former\n";
+    let got = run(&folder, script, Way::Input(WHOLE), &counts(0, 4));
     let expected = "cleared\naccepted, 0 moves\nsaved, 13 bytes\npacked, 44 bytes\n\
                     line 5: cannot write ten: unfinished files are in the way, of the same name with .tmp0 to .tmp9\n\
                     line 6: cannot write ten: unfinished files are in the way, of the same name with .tmp0 to .tmp9\n\
                     entries 1, buckets 8, load 3.1 %, longest relocation 0\n\
                     saved, 13 bytes\nline 9: cannot write folder: it is a folder\n\
-                    saved, 13 bytes\nloaded, 1 entry, rule 0, width 12, buckets 8, mask 0, salt 0\n";
+                    saved, 13 bytes\nloaded, 1 entry, rule 0, width 12, buckets 8, mask 0, salt 0\n\
+                    line 12: cannot write ten: unfinished files are in the way, of the same name with .tmp0 to .tmp9\n\
+                    converted, 9 bytes\n";
     assert_eq!(String::from_utf8_lossy(&got), expected);
     assert!(link.is_symlink() && !folder.path("elsewhere").exists());
     fs::remove_file(link).expect("a link");
@@ -1854,8 +2004,10 @@ fn unfinished_files() {
     assert_eq!(folder.get("f.tmp2"), b"not in the way");
     assert_eq!(folder.get("ten"), b"here before");
     assert_eq!(folder.get("f"), folder.get("nine"));
-    // Ten of ten, nine of nine, two of f, one of none, the five written or kept and two folders.
-    assert_eq!(folder.names().len(), 10 + 9 + 2 + 1 + 5 + 2);
+    assert_eq!(folder.get("former"), CONVERTED);
+    assert_eq!(folder.get("former.tmp0"), b"in the way");
+    // Ten of ten, nine of nine, two of f, one of none and of former, the six written or kept and two folders.
+    assert_eq!(folder.names().len(), 10 + 9 + 2 + 2 + 6 + 2);
 }
 
 /// A write that stops in the middle leaves the old file, and nothing beside it.
@@ -1863,18 +2015,25 @@ fn unfinished_files() {
 fn failed_writes() {
     let folder = Folder::new("failed writes");
     folder.put("f", b"here before");
+    let large = Settings::new(MASKED, 16, 65_536, 0);
+    let large = former_file(large, &vec![0; 4 * 65_536]);
+    folder.put("large", &large);
+    folder.put("small", &FORMER);
     // Files may have 16 blocks of 512 or 1024 bytes, and a write beyond that fails.
     let limit = r#"trap '' XFSZ; ulimit -f 16 || exit 9; exec "$0""#;
     let mut command = Command::new("sh");
     command.args(["-c", limit]).arg(tool());
     command.current_dir(&folder.0);
     let script = b"settings 0 16 65536 0\nhold a\nsave f\npack f\nsave g\nstats\n\
-                   settings 0 16 8 0\nsave h\n";
+                   settings 0 16 8 0\nsave h\n\
+                   convert large f\nconvert large g\nconvert large large\nconvert small small\n";
     let output = talk(&mut command, script, WHOLE);
     let answers = String::from_utf8(output.stdout).expect("text");
     let answers: Vec<&str> = answers.lines().collect();
-    assert_eq!(answers.len(), 8, "{answers:?}");
-    for (i, name) in [(3, "f"), (4, "f"), (5, "g")] {
+    assert_eq!(answers.len(), 12, "{answers:?}");
+    let failed = [(3, "f"), (4, "f"), (5, "g")];
+    let not_converted = [(9, "f"), (10, "g"), (11, "large")];
+    for (i, name) in failed.into_iter().chain(not_converted) {
         let start = format!("line {i}: cannot write {name}: ");
         let answer = answers[i - 1];
         assert!(
@@ -1883,9 +2042,320 @@ fn failed_writes() {
         );
     }
     let stats = "entries 1, buckets 65536, load 0.0 %, longest relocation 0";
-    assert_eq!(answers[5..], [stats, "cleared", "saved, 12 bytes"]);
-    assert_eq!(folder.names(), ["f", "h"]);
+    assert_eq!(answers[5..8], [stats, "cleared", "saved, 12 bytes"]);
+    assert_eq!(answers[11], "converted, 9 bytes");
+    assert_eq!(folder.names(), ["f", "h", "large", "small"]);
     assert_eq!(folder.get("f"), b"here before");
+    assert!(folder.get("large") == large);
+    assert_eq!(folder.get("small"), CONVERTED);
+}
+
+// ── conversions ──
+
+/// A list of one bucket under rule 2 and mask 0, and what comes of its file.
+const FORMER: [u8; 12] = [0x2f, 2, 4, 0, 0, 0, 0, 0x0a, 9, 0, 3, 0];
+const CONVERTED: [u8; 9] = [0x26, 4, 0, 0, 0x0a, 9, 0, 3, 0];
+
+const SOUND: &str =
+    "refused 24: the file needs no conversion: it is sound and of another rule or mask";
+
+#[test]
+fn known_conversions() {
+    let folder = Folder::new("known conversions");
+    folder.put("former", &FORMER);
+    let salt = [0xef, 0xcd, 0xab, 0x89, 0x67, 0x45, 0x23, 0x01];
+    let salted = [&[0x3d, 2, 1, 0, 1, 0][..], &salt, &[0x08, 0xff, 0x0f, 0]].concat();
+    folder.put("salted", &salted);
+    let in_two = "a \u{e4} \t\r b";
+    let to_two = format!("convert former {in_two}");
+    let two = |line: u32| format!("line {line}: {NO_NAMES}");
+    let none = "cannot read none: there is no such file or folder";
+    let loaded = "loaded, 2 entries, rule 0, width 4, buckets 1, mask 0, salt 0";
+    let pairs = [
+        ("convert former f", "converted, 9 bytes".to_string()),
+        ("load f", loaded.into()),
+        ("view 0", "bucket 0: 0 9 0 3".into()),
+        // The second name is all that follows the first, but for the blanks around it.
+        (&to_two[..], "converted, 9 bytes".into()),
+        (
+            "\r convert\t\tformer \r\t g\t ",
+            "converted, 9 bytes".into(),
+        ),
+        ("convert salted s", "converted, 15 bytes".into()),
+        (
+            "load s",
+            "loaded, 1 entry, rule 0, width 12, buckets 2, mask 0, salt 81985529216486895".into(),
+        ),
+        ("view 0", "bucket 0: 0 0 0 4095".into()),
+        ("convert", two(9)),
+        (" convert \t", two(10)),
+        ("convert former", two(11)),
+        ("convert former \r\t", two(12)),
+        ("convert none", two(13)),
+        ("convert none f", format!("line 14: {none}")),
+        ("convert none former", format!("line 15: {none}")),
+        ("convert none none", format!("line 16: {none}")),
+        // A first name in two parts is not one.
+        (
+            "convert a \u{e4} former",
+            "line 17: cannot read a: there is no such file or folder".into(),
+        ),
+        ("convert f h", SOUND.into()),
+        ("convert f f", SOUND.into()),
+        // In its place, which can be done once.
+        ("convert former former", "converted, 9 bytes".into()),
+        ("convert former former", SOUND.into()),
+        ("load former", loaded.into()),
+        ("convert salted  salted ", "converted, 15 bytes".into()),
+        ("convert salted salted", SOUND.into()),
+    ];
+    let script: Vec<&str> = pairs.iter().map(|pair| pair.0).collect();
+    let answers = check_lines("known conversions", &folder, &script);
+    for ((line, expected), answer) in pairs.iter().zip(&answers) {
+        assert_eq!(answer, expected, "{line}");
+    }
+    let plain_salted = [&[0x34, 1, 0][..], &salt, &[0x08, 0xff, 0x0f, 0]].concat();
+    assert_eq!(folder.names(), [in_two, "f", "former", "g", "s", "salted"]);
+    for name in [in_two, "f", "former", "g"] {
+        assert_eq!(folder.get(name), CONVERTED, "{name}");
+    }
+    assert_eq!(
+        [folder.get("s"), folder.get("salted")],
+        [&plain_salted[..]; 2]
+    );
+}
+
+/// Lists that were filled under a mask that does no work: their files become those of the plain rule
+/// with the same cells, and every tag is held there as often as it was.
+#[test]
+fn converted_lists() {
+    let name = "converted lists";
+    let mut mix = mix(name);
+    let mut orders = [0; 3];
+    for buckets in [1, 2, 4, 64, 4_096, 65_536] {
+        for width in [4, 12, 16] {
+            for mask in [0, buckets - 1] {
+                let s = Settings::new(MASKED, width, buckets, mask);
+                converted_list(&mut mix, s, &mut orders);
+                let salt = some_salt(&mut mix);
+                converted_list(&mut mix, s.with_salt(salt), &mut orders);
+            }
+        }
+    }
+    tell(name, &format!(": clear, held once and more: {orders:?}"));
+    assert!(orders.iter().all(|&n| n > 300), "{orders:?}");
+}
+
+fn converted_list(mix: &mut Mix, s: Settings, orders: &mut [u32; 3]) {
+    let name = format!("{s:?}");
+    let folder = Folder::new("converted list");
+    let mut table = vec![0; 4 * s.buckets as usize];
+    let mut scratch = vec![0; 2 * s.buckets as usize];
+    // Few kinds of tags, so that some are held more than once.
+    let kinds = 2 * s.buckets.clamp(8, 64);
+    for _ in 0..kinds {
+        let kind = mix.below(kinds.into());
+        let _ = former::hold(s, &mut table, &mut scratch, &tag(kind));
+    }
+    let file = former_file(s, &table);
+    let plain = Settings {
+        rule: PLAIN,
+        mask: 0,
+        ..s
+    };
+    let expected = hold_file(plain, &table);
+    assert_eq!(file.len(), expected.len() + 3, "{name}");
+    folder.put("from.hold", &file);
+    let mut script = "load from.hold\nconvert from.hold the plain one.hold\n".to_string();
+    script += "load the plain one.hold\nstats\n";
+    for kind in 0..kinds {
+        script += &format!("lookup 0x{}\n", to_hex(&tag(kind)));
+    }
+    let answers = check(&name, &folder, script.as_bytes(), Way::Input(WHOLE));
+    assert!(answers[0].starts_with("refused 4: "), "{name}");
+    assert!(answers[0].contains("convert"), "{}", answers[0]);
+    let converted = format!("converted, {} bytes", expected.len());
+    assert_eq!(answers[1], converted, "{name}");
+    let entries = table.iter().filter(|&&cell| cell != 0).count();
+    let start = format!("entries {entries}, buckets {}, ", s.buckets);
+    assert!(answers[3].starts_with(&start), "{name}: {}", answers[3]);
+    for (kind, answer) in (0..kinds).zip(&answers[4..]) {
+        let copies = former::lookup(s, &table, &tag(kind)).expect("a good tag");
+        let told = match copies {
+            0 => "clear".to_string(),
+            1 => "held, 1 order".to_string(),
+            _ => format!("held, {copies} orders"),
+        };
+        assert_eq!(*answer, told, "{name}");
+        orders[copies.min(2) as usize] += 1;
+    }
+    assert!(folder.get("from.hold") == file, "{name}");
+    assert!(folder.get("the plain one.hold") == expected, "{name}");
+
+    let again = ["convert from.hold from.hold"; 2];
+    let answers = check_lines(&name, &folder, &again);
+    assert_eq!(answers, [&converted[..], SOUND], "{name}");
+    assert!(folder.get("from.hold") == expected, "{name}");
+    assert_eq!(folder.names().len(), 2, "{name}");
+}
+
+/// The longest files that there were, and longer ones.
+#[test]
+fn fullest_conversions() {
+    let name = "fullest conversions";
+    let mut mix = mix(name);
+    let folder = Folder::new(name);
+    let s = Settings::new(MASKED, 16, 65_536, 0xffff).with_salt(u64::MAX);
+    let table = cells(&mut mix, s, Cells::Full);
+    let file = former_file(s, &table);
+    assert_eq!(file.len(), 589_839);
+    folder.put("full", &file);
+    folder.put("less", &file[..589_838]);
+    for (name, more) in [("one", 1), ("two", 2), ("far", 1_000_000)] {
+        folder.put(name, &[&file[..], &mix.bytes(more)].concat());
+    }
+    let from = ["full", "less", "one", "two", "far"];
+    let lines = from.map(|from| format!("convert {from} of {from}"));
+    let mut script: Vec<&str> = lines.iter().map(String::as_str).collect();
+    script.extend(["load of full", "save again", "convert full full"]);
+    let answers = check_lines(name, &folder, &script);
+    let starts = [
+        "converted, 589836 bytes",
+        "refused 11: ",
+        "refused 15: ",
+        "refused 15: ",
+        "refused 15: ",
+        "loaded, 262144 entries, rule 0, ",
+        "saved, 589836 bytes",
+        "converted, 589836 bytes",
+    ];
+    for (answer, start) in answers.iter().zip(starts) {
+        assert!(answer.starts_with(start), "{answer}: {start}");
+    }
+    assert!(folder.get("of full") == folder.get("again"));
+    assert!(folder.get("full") == folder.get("again"));
+}
+
+/// What is refused makes no file and changes none, and no conversion, good or bad, changes the list.
+#[test]
+fn refused_conversions() {
+    let name = "refused conversions";
+    let folder = Folder::new(name);
+    let good = [
+        0x2f, 2, 4, 3, 0, 3, 0, 0x0a, 9, 0, 3, 0, 0x00, 0x01, 15, 0, 0x0c, 1, 0, 2, 0,
+    ];
+    let more = |bytes: &[u8]| [bytes, &[0]].concat();
+    let ring = hold_file(Settings::new(RING, 12, 6, 0), &[7; 24]);
+    let masked = hold_file(Settings::new(MASKED, 12, 4, 1), &[7; 16]);
+    let bad = [
+        ("empty", vec![], 11),
+        ("first", good[..1].to_vec(), 11),
+        ("head", good[..6].to_vec(), 11),
+        ("half", good[..10].to_vec(), 11),
+        ("short", good[..20].to_vec(), 11),
+        ("more", more(&good), 15),
+        ("twice", [good, good].concat(), 15),
+        ("marked", with(&good, 0, &[0x6f]), 12),
+        ("default", with(&good, 2, &[12]), 12),
+        ("early", with(&good, 0, &[0x0f]), 23),
+        ("rule", vec![0x21, 3], 1),
+        ("width", with(&good, 2, &[17]), 2),
+        ("buckets", with(&good, 3, &[2]), 3),
+        ("mask", with(&good, 5, &[4]), 4),
+        ("map", with(&good, 7, &[0x1a]), 13),
+        ("print", with(&good, 8, &[0]), 14),
+        ("wide", with(&good, 9, &[1]), 14),
+        // As good as any until its last bucket.
+        ("late", with(&good, 19, &[0]), 14),
+        // Sound files of other rules and masks, and such files with a fault.
+        ("plain", CONVERTED.to_vec(), 24),
+        ("ring", ring.clone(), 24),
+        ("masked", masked.clone(), 24),
+        ("working", with(&good, 5, &[2]), 24),
+        ("plain-short", CONVERTED[..8].to_vec(), 11),
+        ("ring-more", more(&ring), 15),
+        ("masked-map", with(&masked, 6, &[0xff]), 13),
+    ];
+    folder.put("good", &good);
+    folder.put("there", b"here before");
+    for (file, bytes, _) in &bad {
+        folder.put(file, bytes);
+    }
+    let mut script = "settings 1 11 10 0\n".to_string();
+    for i in 0..36 {
+        script += &format!("hold {i}\n");
+    }
+    script += &look(10);
+    script += "save before\n";
+    for (file, _, _) in &bad {
+        script += &format!("convert {file} new\nconvert {file} there\nconvert {file} {file}\n");
+        script += &look(10);
+    }
+    script += &format!("convert good good\n{}save after\n", look(10));
+    let answers = check(name, &folder, script.as_bytes(), Way::Input(WHOLE));
+    let shown = &answers[37..37 + 11];
+    assert!(
+        !shown[0].ends_with(" 0"),
+        "no hold had a move: {}",
+        shown[0]
+    );
+    let rest = &answers[37 + 12..];
+    for ((file, bytes, n), group) in bad.iter().zip(rest.chunks(14)) {
+        let start = format!("refused {n}: ");
+        for answer in &group[..3] {
+            assert!(answer.starts_with(&start), "{file}: {answer}, not {n}");
+        }
+        assert_eq!(group[3..], *shown, "{file}");
+        assert!(folder.get(file) == *bytes, "{file}");
+    }
+    let end = &rest[14 * bad.len()..];
+    assert_eq!(end[0], "converted, 18 bytes");
+    assert_eq!(end[1..12], *shown);
+    assert_eq!(folder.get("before"), folder.get("after"));
+    assert_eq!(folder.get("there"), b"here before");
+    assert!(!folder.path("new").exists());
+}
+
+/// Whether the list may be written is what the last load or unpack says, not a conversion.
+#[test]
+fn conversions_and_the_list() {
+    let folder = Folder::new("conversions and the list");
+    folder.put("former", &FORMER);
+    let not_written = |line: u32| format!("line {line}: {NOT_THE_LIST}");
+    let pairs = [
+        ("settings 1 12 6 0 7", "cleared".to_string()),
+        ("hold a", "accepted, 0 moves".into()),
+        ("load former", "refused 4: ".into()),
+        ("save f", not_written(4)),
+        ("convert former plain", "converted, 9 bytes".into()),
+        ("save f", not_written(6)),
+        ("pack p", not_written(7)),
+        ("convert former former", "converted, 9 bytes".into()),
+        ("convert former former", SOUND.into()),
+        ("save former", not_written(10)),
+        // The list is the one from before.
+        (
+            "settings",
+            "rule 1, width 12, buckets 6, mask 0, salt 7".into(),
+        ),
+        ("lookup a", "held, 1 order".into()),
+        ("load plain", "loaded, 2 entries, rule 0, ".into()),
+        ("save f", "saved, 9 bytes".into()),
+        // And a conversion that fails forbids nothing.
+        ("convert none x", "line 15: cannot read none: ".into()),
+        ("save f", "saved, 9 bytes".into()),
+        ("convert plain x", SOUND.into()),
+        ("pack p", "packed, 2 bytes".into()),
+        ("convert plain", format!("line 19: {NO_NAMES}")),
+        ("save f", "saved, 9 bytes".into()),
+    ];
+    let script: Vec<&str> = pairs.iter().map(|pair| pair.0).collect();
+    let answers = check_lines("conversions and the list", &folder, &script);
+    for ((line, start), answer) in pairs.iter().zip(&answers) {
+        assert!(answer.starts_with(start), "{line}: {answer}");
+    }
+    assert_eq!(folder.get("f"), CONVERTED);
+    assert_eq!(folder.names(), ["f", "former", "p", "plain"]);
 }
 
 // ── long lines ──
@@ -1965,6 +2435,9 @@ fn long_arguments() {
     let nines = "view ".to_string() + &"9".repeat(LINE - 5);
     let words = "settings".to_string() + &" 1".repeat((LINE - 8) / 2);
     let gap = "lookup ".to_string() + &" ".repeat(LINE - 8) + "a";
+    let one_name = "convert ".to_string() + &"n".repeat(LINE - 8);
+    let two_names = "convert none".to_string() + &" ".repeat(LINE - 13) + "f";
+    let long_name = "convert none ".to_string() + &"n".repeat(LINE - 13);
     let unknown = "x".repeat(LINE);
     let lines = [
         &text[..],
@@ -1976,6 +2449,9 @@ fn long_arguments() {
         &nines,
         &words,
         &gap,
+        &one_name,
+        &two_names,
+        &long_name,
         &unknown,
     ];
     assert!(lines.iter().all(|line| line.len() <= LINE));
@@ -1990,8 +2466,12 @@ fn long_arguments() {
         "line 7: the bucket is not a number",
         "line 8: settings takes four numbers and a salt, and no more",
         "clear",
-        "line 10: there is no such command",
+        "line 10: convert takes two names of files",
+        "line 11: cannot read none: ",
+        "line 12: cannot read none: ",
+        "line 13: there is no such command",
     ];
+    assert_eq!(answers.len(), starts.len());
     for (answer, start) in answers.iter().zip(starts) {
         assert!(answer.starts_with(start), "{answer}: {start}");
     }

@@ -14,6 +14,10 @@ use std::sync::mpsc;
 use std::thread;
 use std::time::Duration;
 
+/// A list of one bucket under rule 2 and mask 0, and what comes of its file.
+const FORMER: [u8; 12] = [0x2f, 2, 4, 0, 0, 0, 0, 0x0a, 9, 0, 3, 0];
+const CONVERTED: [u8; 9] = [0x26, 4, 0, 0, 0x0a, 9, 0, 3, 0];
+
 /// The tool's answers line by line.
 fn answers(output: &Output) -> Vec<String> {
     let text = String::from_utf8(output.stdout.clone()).expect("text");
@@ -66,6 +70,7 @@ fn failed_load_then_save() {
     folder.put("stray", &[&good[..], b"\n"].concat());
     folder.put("short", &good[..good.len() - 1]);
     folder.put("stray packed", &[&packed[..], b"\n"].concat());
+    folder.put("former", &FORMER);
     folder.add_folder("folder");
     let before = folder.files();
     for (read, write) in [
@@ -73,6 +78,7 @@ fn failed_load_then_save() {
         ("load short", "save short"),
         ("load missing", "save missing"),
         ("load folder", "save good"),
+        ("load former", "save former"),
         ("unpack stray packed", "pack stray packed"),
         ("unpack missing", "pack missing"),
         ("unpack folder", "save good"),
@@ -98,6 +104,7 @@ fn written_again() {
         &folder,
         &["settings 0 12 8 0", "hold a", "save good", "pack packed"],
     );
+    folder.put("former", &FORMER);
     for (line, written) in [
         ("clear", true),
         ("settings 0 12 8 0", true),
@@ -110,6 +117,9 @@ fn written_again() {
         ("hold b", false),
         ("load missing", false),
         ("stats", false),
+        ("convert former made", false),
+        ("convert good made", false),
+        ("convert missing made", false),
     ] {
         let lines = [
             "settings 0 12 8 0",
@@ -194,11 +204,15 @@ fn counts() {
 #[test]
 fn strict() {
     let folder = Folder::new("strict");
+    folder.put("sound", &CONVERTED);
     for (first, end) in [
         ("view 8", "1 refused, 0 failed"),
         ("nothing", "0 refused, 1 failed"),
         ("load missing", "0 refused, 1 failed"),
         ("hold 0x1", "0 refused, 1 failed"),
+        ("convert sound f", "1 refused, 0 failed"),
+        ("convert missing f", "0 refused, 1 failed"),
+        ("convert f", "0 refused, 1 failed"),
     ] {
         for ending in ["\n", ""] {
             let script = format!("settings 0 12 8 0\nhold a\n{first}\nhold b\nsave f{ending}");
@@ -229,6 +243,7 @@ fn statuses() {
     folder.put("good", b"hold a\nlookup a\n");
     folder.put("bad", b"hold a\nnothing\nlookup a\n");
     folder.put("refused", b"view 4096\n");
+    folder.put("former", &FORMER);
     for (args, script, expected) in [
         (&["good"][..], "", 0),
         (&[], "hold a\nrelease b\n", 0),
@@ -238,6 +253,9 @@ fn statuses() {
         (&["--strict", "bad"], "", 1),
         (&["refused"], "", 1),
         (&[], "load missing\n", 1),
+        (&[], "convert former f\n", 0),
+        (&[], "convert f f\n", 1),
+        (&[], "convert missing f\n", 1),
         (&["missing"], "hold a\n", 2),
         (&["."], "hold a\n", 2),
         (&[""], "hold a\n", 2),
@@ -283,10 +301,12 @@ fn answers_that_cannot_be_written() {
             .open("/dev/full")
             .expect("/dev/full")
     };
-    let script = "hold a\nhold b\nsave f\n";
+    let script = "hold a\nhold b\nsave f\nconvert former g\n";
     folder.put("script", script.as_bytes());
+    folder.put("former", &FORMER);
+    let written = |name: &str| folder.path(name).exists();
     let ended = |output: &Output, name: &str| {
-        assert!(!folder.path("f").exists(), "{name}");
+        assert!(!written("f") && !written("g"), "{name}");
         let told = errors(output);
         assert!(
             told.contains("an answer could not be written"),
@@ -320,7 +340,7 @@ fn answers_that_cannot_be_written() {
         .current_dir(&folder.0);
     let output = shell.env("GEDRUNELJ", tool()).output().expect("a run");
     assert_eq!(output.status.code(), Some(1));
-    assert!(!errors(&output).is_empty() && !folder.path("f").exists());
+    assert!(!errors(&output).is_empty() && !written("f") && !written("g"));
     // Nobody reads the answers any more.
     let mut child = wrapped(&folder)
         .stdin(Stdio::piped())
@@ -337,7 +357,7 @@ fn answers_that_cannot_be_written() {
     ended(&output, "closed pipe");
     // And a good run does save.
     assert_eq!(status(&folder, &["script"], "").0, Some(0));
-    assert!(folder.path("f").exists());
+    assert!(written("f") && written("g"));
 }
 
 // ── files ──
@@ -346,35 +366,51 @@ fn answers_that_cannot_be_written() {
 #[test]
 fn rights_are_kept() {
     let folder = Folder::new("rights");
-    let script = &["settings 0 12 8 0", "hold a", "save f", "pack g"];
+    folder.put("former", &FORMER);
+    let script = &[
+        "settings 0 12 8 0",
+        "hold a",
+        "save f",
+        "pack g",
+        "convert former h",
+    ];
+    let in_place = "convert i i";
+    let before = |name: &str| match name {
+        "i" => &FORMER[..],
+        _ => b"here before",
+    };
     for mode in [0o600, 0o640, 0o444, 0o755, 0o666] {
-        for name in ["f", "g"] {
+        for name in ["f", "g", "h", "i"] {
             let _ = fs::remove_file(folder.path(name));
-            folder.put(name, b"here before");
+            folder.put(name, before(name));
             let rights = fs::Permissions::from_mode(mode);
             fs::set_permissions(folder.path(name), rights).expect("a mode");
         }
-        let output = ask(&folder, script);
+        let output = ask(&folder, &[&script[..], &[in_place]].concat());
         assert_eq!(errors(&output), "", "{mode:o}");
-        for name in ["f", "g"] {
+        for name in ["f", "g", "h", "i"] {
             let there = fs::metadata(folder.path(name)).expect("a file");
             assert_eq!(there.mode() & 0o7777, mode, "{name}");
-            assert!(folder.get(name) != b"here before", "{name}");
+            assert!(folder.get(name) != before(name), "{name}");
         }
     }
     // Only root may give a file away.
     let mut chown = Command::new("chown");
     let given = chown
-        .args(["12345:23456", "f"])
+        .args(["12345:23456", "f", "h"])
         .current_dir(&folder.0)
         .output();
     if given.map_or(false, |output| output.status.success()) {
         assert_eq!(errors(&ask(&folder, script)), "");
-        let there = fs::metadata(folder.path("f")).expect("a file");
-        assert_eq!((there.uid(), there.gid()), (12_345, 23_456));
+        for name in ["f", "h"] {
+            let there = fs::metadata(folder.path(name)).expect("a file");
+            assert_eq!((there.uid(), there.gid()), (12_345, 23_456), "{name}");
+        }
     }
     // A new file has what the user's umask gives.
-    fs::remove_file(folder.path("f")).expect("a file");
+    for name in ["f", "h"] {
+        fs::remove_file(folder.path(name)).expect("a file");
+    }
     ask(&folder, script);
     let other = OpenOptions::new()
         .write(true)
@@ -383,8 +419,10 @@ fn rights_are_kept() {
         .open(folder.path("other"))
         .and_then(|file| file.metadata())
         .expect("a file");
-    let there = fs::metadata(folder.path("f")).expect("a file");
-    assert_eq!(there.mode(), other.mode());
+    for name in ["f", "h"] {
+        let there = fs::metadata(folder.path(name)).expect("a file");
+        assert_eq!(there.mode(), other.mode(), "{name}");
+    }
 }
 
 /// What is no regular file stays as it is, and a link too.
@@ -392,6 +430,8 @@ fn rights_are_kept() {
 fn irregular_files() {
     let folder = Folder::new("irregular");
     folder.put("target", b"here before");
+    folder.put("former", &FORMER);
+    symlink("former", folder.path("from")).expect("a link");
     symlink("target", folder.path("link")).expect("a link");
     symlink("nowhere", folder.path("dangling")).expect("a link");
     let made = Command::new("mkfifo")
@@ -406,15 +446,21 @@ fn irregular_files() {
     for name in names {
         script.push(format!("save {name}"));
         script.push(format!("pack {name}"));
+        script.push(format!("convert former {name}"));
     }
+    script.push("convert from from".to_string());
+    // A link to the file to read is followed.
+    script.push("convert from new".to_string());
     script.push("save target".to_string());
     let lines: Vec<&str> = script.iter().map(String::as_str).collect();
     let output = ask(&folder, &lines);
     let answers = answers(&output);
-    for (i, line) in lines.iter().enumerate().take(12).skip(2) {
-        let name = line.split(' ').nth(1).expect("two words");
+    for (i, line) in lines.iter().enumerate().take(18).skip(2) {
+        let name = line.rsplit(' ').next().expect("a word");
         let reason = match name {
-            "link" | "dangling" => "it is a link; give the name of the file that it leads to",
+            "link" | "dangling" | "from" => {
+                "it is a link; give the name of the file that it leads to"
+            }
             "folder" => "it is a folder",
             _ => "it is no regular file",
         };
@@ -423,9 +469,14 @@ fn irregular_files() {
             format!("line {}: cannot write {name}: {reason}", i + 1)
         );
     }
-    assert_eq!(errors(&output), "gedrunelj: 0 refused, 10 failed\n");
-    assert!(answers[12].starts_with("saved, ") && folder.get("target") != b"here before");
-    assert!(folder.path("link").is_symlink() && folder.path("dangling").is_symlink());
+    assert_eq!(errors(&output), "gedrunelj: 0 refused, 16 failed\n");
+    assert_eq!(answers[18], "converted, 9 bytes");
+    assert_eq!(folder.get("new"), CONVERTED);
+    assert_eq!(folder.get("former"), FORMER);
+    assert!(answers[19].starts_with("saved, ") && folder.get("target") != b"here before");
+    for link in ["link", "dangling", "from"] {
+        assert!(folder.path(link).is_symlink(), "{link}");
+    }
     assert!(!folder.path("nowhere").exists());
     let kind = |name: &str| {
         fs::symlink_metadata(folder.path(name))
@@ -434,7 +485,7 @@ fn irregular_files() {
     };
     assert!(kind("pipe").is_fifo() && kind("socket").is_socket() && kind("folder").is_dir());
     let left = fs::read_dir(&folder.0).expect("a folder").count();
-    assert_eq!(left, 6, "nothing else is left there");
+    assert_eq!(left, 9, "nothing else is left there");
 }
 
 /// A library to put before the C library's: it writes down what is forced to the disk, in what order, and fails where it is told to.
@@ -488,15 +539,19 @@ fn make_shim(folder: &Folder) {
 fn unreadable_commands() {
     let folder = Folder::new("unreadable");
     make_shim(&folder);
-    for (reads, answered) in [("0", 0), ("1", 1)] {
-        let mut command = command(&folder);
-        command
-            .env("LD_PRELOAD", "./shim.so")
-            .env("SHIM_READS", reads);
-        let output = talk(&mut command, b"settings 0 12 8 0\nsave part", WHOLE);
-        assert_eq!(answers(&output).len(), answered);
-        assert!(errors(&output).contains("the commands cannot be read"));
-        assert!(!folder.path("part").exists());
+    folder.put("former", &FORMER);
+    for last in ["save part", "convert former part"] {
+        for (reads, answered) in [("0", 0), ("1", 1)] {
+            let mut command = command(&folder);
+            command
+                .env("LD_PRELOAD", "./shim.so")
+                .env("SHIM_READS", reads);
+            let script = format!("settings 0 12 8 0\n{last}");
+            let output = talk(&mut command, script.as_bytes(), WHOLE);
+            assert_eq!(answers(&output).len(), answered, "{last}");
+            assert!(errors(&output).contains("the commands cannot be read"));
+            assert!(!folder.path("part").exists(), "{last}");
+        }
     }
 }
 
@@ -506,6 +561,7 @@ fn forced_to_the_disk() {
     let folder = Folder::new("forced");
     make_shim(&folder);
     folder.add_folder("sub");
+    folder.put("former", &FORMER);
     let log = folder.path("log");
     let run = |line: &str, fail: &str| {
         let _ = fs::remove_file(&log);
@@ -527,6 +583,8 @@ fn forced_to_the_disk() {
         ("save f", "saved, 11 bytes"),
         ("save f", "saved, 11 bytes"),
         ("pack sub/g", "packed, 44 bytes"),
+        ("convert former c", "converted, 9 bytes"),
+        ("convert former sub/c", "converted, 9 bytes"),
     ] {
         let (answer, order, errors) = run(line, "");
         assert_eq!(
@@ -539,18 +597,25 @@ fn forced_to_the_disk() {
     let whole = format!("save {}", folder.path("sub/h").display());
     assert_eq!(run(&whole, "").1, "file rename folder ");
     // The folder cannot be forced: the file is there, and the doubt is told.
-    let (answer, _, errors) = run("save d", "folder5");
-    assert!(
-        answer.starts_with("line 2: written, but a power cut may undo it: "),
-        "{answer}"
-    );
-    assert_eq!(errors, "gedrunelj: 0 refused, 1 failed\n");
-    assert!(folder.path("d").exists());
+    for (line, name) in [("save d", "d"), ("convert former e", "e")] {
+        let (answer, _, errors) = run(line, "folder5");
+        assert!(
+            answer.starts_with("line 2: written, but a power cut may undo it: "),
+            "{answer}"
+        );
+        assert_eq!(errors, "gedrunelj: 0 refused, 1 failed\n");
+        assert!(folder.path(name).exists());
+    }
     // The file cannot: nothing has changed.
-    let before = folder.get("f");
-    let (answer, order, _) = run("pack f", "file5");
-    assert_eq!(answer, "line 2: cannot write f: the disk failed");
-    assert_eq!((&order[..], folder.get("f")), ("file ", before));
+    for (line, name) in [("pack f", "f"), ("convert former former", "former")] {
+        let before = folder.get(name);
+        let (answer, order, _) = run(line, "file5");
+        assert_eq!(
+            answer,
+            format!("line 2: cannot write {name}: the disk failed")
+        );
+        assert_eq!((&order[..], folder.get(name)), ("file ", before));
+    }
     // An error that the tool has no words for comes with its number and the system's.
     let (answer, _, errors) = run("pack f", "file122");
     assert_eq!(answer, "line 2: cannot write f: error 122 of the system");

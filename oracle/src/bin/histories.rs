@@ -4,7 +4,7 @@
 //! input and writes each with its answer. A request acts on what those before it left.
 
 use oracle::index::{fnv1a, Answer, Settings, MASKED, PLAIN, RING};
-use oracle::requests::{self, from_hex, listed, numbers, run, shown, to_hex, Mix, SALTS};
+use oracle::requests::{self, from_hex, listed, masks, numbers, run, shown, to_hex, Mix, SALTS};
 use oracle::table;
 use std::io;
 
@@ -251,7 +251,9 @@ impl Script {
         for (s, room) in [
             (Settings::new(PLAIN, 12, 1, 0), 4),
             (Settings::new(RING, 12, 2, 0), 8),
-            (Settings::new(MASKED, 12, 1, 0), 4),
+            // Here the tag's candidates are one bucket, and there four.
+            (Settings::new(MASKED, 12, 4, 1), 4),
+            (Settings::new(MASKED, 12, 64, 7), 16),
             (Settings::new(PLAIN, 12, 4_096, 0), 8),
         ] {
             self.fresh(s);
@@ -300,8 +302,15 @@ impl Script {
             (Settings::new(RING, 12, 65_538, 0), 262_144, 131_072),
             (Settings::new(MASKED, 12, 131_072, 0), 262_144, 131_072),
             (Settings::new(PLAIN, 12, max, 7), 3, 3),
+            (Settings::new(MASKED, 12, 7, 6), 28, 14),
             (Settings::new(MASKED, 12, 8, 8), 32, 16),
             (Settings::new(MASKED, 12, 8, max), 31, 0),
+            (Settings::new(MASKED, 12, 8, 0), 32, 16),
+            (Settings::new(MASKED, 12, 8, 7), 32, 16),
+            (Settings::new(MASKED, 12, 4, 3), 15, 0),
+            (Settings::new(MASKED, 12, 2, 0), 8, 4),
+            (Settings::new(MASKED, 12, 2, 1), 8, 4),
+            (Settings::new(MASKED, 12, 1, 0), 4, 2),
             (Settings::new(PLAIN, 12, 8, 1), 32, 16),
             (Settings::new(RING, 12, 8, 7), 33, 15),
             (good, 31, 16),
@@ -474,7 +483,7 @@ impl Script {
                 (RING, 16, 0),
                 (MASKED, 4, 1),
                 (MASKED, 16, 6),
-                (MASKED, 16, 15),
+                (MASKED, 16, 14),
             ] {
                 for empty in [1, 3] {
                     self.raw(Settings::new(rule, width, buckets, mask), empty);
@@ -587,15 +596,6 @@ impl Script {
         let masked = Settings::new(MASKED, 4, 64, 21);
         self.large(masked.with_salt(u64::MAX), Some(10));
     }
-}
-
-/// Masks at the edges and in the middle of a bucket count, each once.
-fn masks(buckets: u32) -> Vec<u32> {
-    let mut all = vec![0, 1, buckets / 2, buckets / 3, buckets - 1];
-    all.retain(|&mask| mask < buckets);
-    all.sort_unstable();
-    all.dedup();
-    all
 }
 
 fn requests() -> Vec<String> {

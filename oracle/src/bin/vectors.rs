@@ -11,6 +11,8 @@ use std::io;
 
 const RULES: [u32; 3] = [PLAIN, RING, MASKED];
 const SIZES: [u32; 8] = [1, 2, 6, 10, 1_024, 4_096, 65_534, 65_536];
+/// Those of the masked rule, which starts at four buckets.
+const MASKED_SIZES: [u32; 9] = [1, 2, 4, 6, 8, 1_024, 4_096, 65_534, 65_536];
 
 /// Bucket counts, good and bad, around the edges of the check.
 const COUNTS: [u32; 28] = [
@@ -72,15 +74,22 @@ fn settings_requests(out: &mut Requests) {
     let max = u32::MAX;
     // One number at a time at its edges.
     for rule in [0, 1, 2, 3, 4, max] {
+        // A mask that is good wherever there is one.
+        let mask = u32::from(rule == MASKED);
         for width in [0, 3, 4, 12, 16, 17, max] {
-            out.settings(Settings::new(rule, width, 4_096, 0));
+            out.settings(Settings::new(rule, width, 4_096, mask));
         }
         for buckets in COUNTS {
-            out.settings(Settings::new(rule, 12, buckets, 0));
+            out.settings(Settings::new(rule, 12, buckets, mask));
         }
-        for buckets in [1, 2, 4, 6, 4_096, 65_536] {
-            for mask in [0, 1, buckets / 2, buckets - 1, buckets, buckets + 1, max] {
+        for buckets in [1, 2, 4, 6, 8, 4_096, 65_536] {
+            let last = buckets - 1;
+            for mask in [0, 1, buckets / 2, last, buckets, buckets + 1, max] {
                 out.settings(Settings::new(rule, 12, buckets, mask));
+            }
+            // The greatest that is good.
+            if last > 0 {
+                out.settings(Settings::new(rule, 12, buckets, last - 1));
             }
         }
     }
@@ -96,12 +105,14 @@ fn settings_requests(out: &mut Requests) {
     }
 }
 
-/// A few good settings of each rule, and one refused by each of the four checks.
+/// A few good settings of each rule, and some refused by each of the four checks.
 fn mixed_settings() -> Vec<Settings> {
     let mut all = vec![];
     for width in [4, 12, 16] {
         for buckets in [1, 2, 8, 1_024, 4_096, 65_536] {
             all.push(Settings::new(PLAIN, width, buckets, 0));
+        }
+        for buckets in [4, 8, 16, 1_024, 4_096, 65_536] {
             all.push(Settings::new(MASKED, width, buckets, buckets / 2));
         }
         for buckets in [2, 6, 10, 1_000, 65_534, 65_536] {
@@ -118,6 +129,10 @@ fn mixed_settings() -> Vec<Settings> {
         Settings::new(PLAIN, 12, 4_096, 1),
         Settings::new(RING, 12, 6, 1),
         Settings::new(MASKED, 12, 4_096, 4_096),
+        Settings::new(MASKED, 12, 4_096, 0),
+        Settings::new(MASKED, 12, 4_096, 4_095),
+        Settings::new(MASKED, 12, 2, 1),
+        Settings::new(MASKED, 12, 1, 0),
     ]);
     all
 }
@@ -196,16 +211,26 @@ fn edge_buckets(m: u32) -> [u32; 4] {
     [0, l.saturating_sub(1), l, m - 1]
 }
 
+/// Any mask that does work, where there is one.
+fn working_mask(mix: &mut Mix, buckets: u32) -> u32 {
+    1 + mix.below(u64::from(buckets.max(3) - 2))
+}
+
 fn candidates_requests(out: &mut Requests, mix: &mut Mix) {
     for rule in RULES {
-        for buckets in SIZES {
+        let sizes = match rule {
+            MASKED => &MASKED_SIZES[..],
+            _ => &SIZES,
+        };
+        for &buckets in sizes {
             let masks = match rule {
                 MASKED => vec![
-                    0,
-                    1.min(buckets - 1),
+                    1,
                     buckets / 2,
+                    buckets.saturating_sub(2),
+                    working_mask(mix, buckets),
+                    0,
                     buckets - 1,
-                    mix.below(u64::from(buckets)),
                 ],
                 _ => vec![0],
             };
@@ -257,11 +282,12 @@ fn candidates_requests(out: &mut Requests, mix: &mut Mix) {
     for _ in 0..300 {
         let rule = mix.below(3);
         let buckets = match rule {
+            PLAIN => 1 << mix.below(17),
             RING => 2 * (1 + mix.below(32_768)),
-            _ => 1 << mix.below(17),
+            _ => 4 << mix.below(15),
         };
         let mask = match rule {
-            MASKED => mix.below(u64::from(buckets)),
+            MASKED => working_mask(mix, buckets),
             _ => 0,
         };
         let s = Settings::new(rule, 4 + mix.below(13), buckets, mask);
@@ -396,6 +422,9 @@ mod tests {
         assert_eq!(answer("settings 1 12 6 0 0"), "good");
         assert_eq!(answer("settings 1 12 6 0 18446744073709551615"), "good");
         assert_eq!(answer("settings 0 12 6 0 0"), "refused 3");
+        assert_eq!(answer("settings 2 12 8 6 0"), "good");
+        assert_eq!(answer("settings 2 12 8 7 0"), "refused 4");
+        assert_eq!(answer("settings 2 12 7 6 0"), "refused 3");
         assert_eq!(answer("tag 0 12 4096 0 0 61"), "3377 3148");
         assert_eq!(answer("tag 0 12 4096 0 0 "), "refused 7");
         assert_eq!(answer("tag 0 12 4096 0 1 61"), "3812 3404");

@@ -10,8 +10,9 @@ use Rattle.calls.proofs.Laws.{table-check-laws, writer-laws}
 use Rattle.holdfile.specs.declared.Size.{Size}
 use Rattle.holdfile.specs.Internal.{Sized}
 use Rattle.lemmas.specs.Stores.{Put}
+use Rattle.file_header.proofs.Laws.{header-put}
 use Rattle.lemmas.proofs.Stores.{put-length}
-use Rattle.holdfile.proofs.Writing.{answer-16, answer-written, needed-fits, header-put}
+use Rattle.holdfile.proofs.Writing.{answer-16, answer-written, needed-fits}
 use Rattle.holdfile.proofs.write.Statement.{statement}
 use Rattle.holdfile.proofs.write.Tie as tie
 

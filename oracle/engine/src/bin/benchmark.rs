@@ -16,7 +16,7 @@
 use engine::boundary::Engine;
 use oracle::index::{Settings, MASKED, PLAIN, RING};
 use oracle::requests::Mix;
-use oracle::{branch_free, fast, holdfile, packed, table};
+use oracle::{branch_free, fast, former, holdfile, packed, table};
 use std::ptr;
 use std::time::Instant;
 
@@ -85,6 +85,16 @@ impl Side {
             Side::Other => signed(holdfile::read(bytes, cells), |_| 0),
             Side::BranchFree => signed(branch_free::read(bytes, cells), |_| 0),
             Side::Fast => signed(fast::holdfile::read(bytes, cells), |_| 0),
+        }
+    }
+
+    #[inline(never)]
+    fn file_convert(self, bytes: &[u8], out: &mut [u8]) -> i64 {
+        match self {
+            Side::Engine => ENGINE.file_convert(bytes, out),
+            Side::Other | Side::BranchFree | Side::Fast => {
+                signed(holdfile::convert(bytes, out), |n| n as i64)
+            }
         }
     }
 
@@ -288,6 +298,12 @@ fn format_rows(s: &Settings, share: f64) {
     file_rows(&format!("hold file, read, {at}"), size, |side| {
         side.file_read(&file, &mut table)
     });
+    // the same cells as they were filed under a mask of no bit
+    let former = Settings { rule: MASKED, ..*s };
+    let size = former::write(former, &cells, &mut out).expect("such a mask was taken");
+    let file = out[..size].to_vec();
+    let converted = measure(|side| timed(|| used(side.file_convert(&file, &mut out))));
+    speed(&format!("hold file, convert, {at}"), size, converted);
     let size = Side::Other.packed_write(s, &cells, &mut out) as usize;
     let form = out[..size].to_vec();
     packed_rows(&format!("packed form, write, {at}"), size, |side| {

@@ -1,7 +1,8 @@
 use borrow.Author.Needs.{needs}
 use mathlib.Core.Path.{_≡_, sym, ap, _∙_}
-use Rattle.commands.specs.Commands.{asked, named}
+use Rattle.commands.specs.Commands.{withText, asked, named}
 use Rattle.commands.specs.declared.Asks.{Asks}
+use Rattle.commands.specs.declared.Expected.{Expected}
 use Rattle.commands.proofs.words.named.Statement.{statement}
 use Rattle.commands.proofs.words.named.Tie as tie
 
@@ -14,16 +15,21 @@ returns : tie.Need-returns
 returns c = c .with-text .ensures ∙ by-name (c .before .before .before .before) (c .before .before .c .given .1)
 
 returns-2 : tie.Need-returns-2
-returns-2 c = c .alone .ensures ∙ by-name (c .before .before .before .before) (c .before .before .c2 .given .1)
+returns-2 c =
+    let k = c .before .before .before in
+    c .with-text2 .ensures ∙ ap (withText _ Expected.Files) (c .before .after-word .ensures) ∙ by-name (k .before .before) (k .c2 .given .1)
 
 returns-3 : tie.Need-returns-3
-returns-3 c = c .view-line .ensures ∙ by-name (c .before .before .before) (c .before .enum-told .given .1)
+returns-3 c = c .alone .ensures ∙ by-name (c .before .before .before .before) (c .before .before .c3 .given .1)
 
 returns-4 : tie.Need-returns-4
-returns-4 c = c .settings-line .ensures ∙ by-name (c .before .before .before) (c .before .enum-told2 .given .1)
+returns-4 c = c .view-line .ensures ∙ by-name (c .before .before .before) (c .before .enum-told .given .1)
 
 returns-5 : tie.Need-returns-5
-returns-5 c = by-name (c .before .before) (c .enum-told3 .given .1)
+returns-5 c = c .settings-line .ensures ∙ by-name (c .before .before .before) (c .before .enum-told2 .given .1)
+
+returns-6 : tie.Need-returns-6
+returns-6 c = by-name (c .before .before) (c .enum-told3 .given .1)
 
 pub named-spec : {M : Type 1} → statement M
 named-spec =
@@ -31,6 +37,9 @@ named-spec =
     (tie.spec
     (λ c κs. search needs)
     (λ c. search needs)
+    (λ c κs. search needs)
+    (λ c. search needs)
+    (λ c κs. search needs)
     (λ c κs. search needs)
     (λ c. search needs)
     (λ c κs. search needs)
@@ -43,4 +52,5 @@ named-spec =
     returns-2
     returns-3
     returns-4
-    returns-5)
+    returns-5
+    returns-6)

@@ -1,0 +1,3 @@
+-- What the converter does to a file, byte by byte, and what is promised of it.
+pub mod Converter
+pub mod Conversion
