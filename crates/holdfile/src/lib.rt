@@ -473,7 +473,7 @@ pub fn read(bytes: &[u8], table: &mut [u16]) -> ReadAnswer
 }
 
 // A file by itself, without a table: the settings that its header names and the place where its buckets start, where the whole is sound
-// by the former checks of the settings. What a degenerate mask was written under passes here.
+// by the former checks of the settings: a file that was written under a degenerate mask passes.
 pub fn examine(bytes: &[u8]) -> HeaderRead
     ensures { λ r. ⌜ Examined (now (bytes .entry)) r ⌝ }
 {

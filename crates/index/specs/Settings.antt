@@ -63,7 +63,7 @@ formerChecks s =
 abbrev pub formerRefusal : Settings → Option ℕ
 formerRefusal s = firstMet (formerChecks s)
 
--- and as they are: it is refused as one that is out of range is
+-- and as they are: such a mask is refused as one that is out of range is
 unfoldable pub settingsChecks : Settings → List Check
 settingsChecks s = formerChecks s ++ (check 4 (degenerate s) ∷ [])
 

@@ -105,7 +105,7 @@ impl Settings {
         }
     }
 
-    // The first number by which the settings are refused, 0 where they pass, while a degenerate mask still passed: files of that time
+    // The first number by which the settings were refused while a degenerate mask still passed, 0 where they passed: files of that time
     // are converted.
     pub fn former_refusal(self) -> u32
         ensures { λ r. ⌜ r ≡ numberOf (formerRefusal self) ⌝ }
