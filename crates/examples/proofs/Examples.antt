@@ -9,7 +9,7 @@ use native.Mathlib.Omega.{arith}
 use lib.ListN.{length}
 use Rattle.refusals.specs.Outcomes.{given, outcome}
 use Rattle.index.specs.declared.Settings.{Settings}
-use Rattle.index.specs.Settings.{Representable, powerOfTwo, degenerate, formerChecks, settingsChecks, settingsRefusal, half, modulus}
+use Rattle.index.specs.Settings.{Representable, powerOfTwo, degenerate, formChecks, formerChecks, settingsChecks, settingsRefusal, half, modulus}
 use Rattle.index.specs.Hash.{fnvStep, fnvFrom, fnv1a, tagHash, lowerHalf, fingerprintOf, homeOf, fingerprint, home, tagChecks}
 use Rattle.index.specs.Candidates.{offset, across, coMask, xorSteps, othersBy, others, candidates}
 use Rattle.calls.specs.Cells.{lowestEmpty}
@@ -34,5 +34,5 @@ salted-fits : Representable salted
 salted-fits = record { rule = omega arith; width = omega arith; buckets = omega arith; mask = omega arith; salt = omega arith }
 
 pub examples-hold : AllYield examples
-unfolding examples half across coMask xorSteps othersBy powerOfTwo degenerate formerChecks settingsChecks modulus fnvStep fnvFrom fnv1a tagHash lowerHalf fingerprintOf homeOf fingerprint home tagChecks offset others candidates lowestEmpty leadsTo searchFrom searchFor tableChecks scratchChecks fresh holdChecks holdIn hold fileOf header body rows rowOf sortBuckets codeOf bucketBits streamOf packedLength packedOf
+unfolding examples half across coMask xorSteps othersBy powerOfTwo degenerate formChecks formerChecks settingsChecks modulus fnvStep fnvFrom fnv1a tagHash lowerHalf fingerprintOf homeOf fingerprint home tagChecks offset others candidates lowestEmpty leadsTo searchFrom searchFor tableChecks scratchChecks fresh holdChecks holdIn hold fileOf header body rows rowOf sortBuckets codeOf bucketBits streamOf packedLength packedOf
 examples-hold = (refl, (refl, (refl, (refl, (refl, (refl, (refl, (refl, (refl, (filed _ _ _ refl small-fits refl refl refl, (filed _ _ _ refl salted-fits refl refl refl, (refl, (refl, (refl, (refl, (refl, (refl, tt)))))))))))))))))

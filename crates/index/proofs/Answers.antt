@@ -4,13 +4,15 @@ use mathlib.Core.Path.{_≡_, refl, sym, ap, ap₂, _∙_}
 use mathlib.Core.Logic.{_⊎_, _≢_}
 use mathlib.Core.Bool.{Bool, cond}
 use mathlib.Core.Option.{none, some}
-use mathlib.Core.List.{List, [], _++_}
+use mathlib.Core.List.{List, [], _∷_, _++_}
 use Prim.Native.Nat.{ℕ, _<_, _≤_}
-use borrow.Author.Tests.{ne-eqb}
+use native.Mathlib.Omega.{arith}
+use borrow.Author.Tests.{leb-false, ne-eqb}
+use lib.Dec.{leb}
 use lib.ListN.{length}
-use Rattle.refusals.specs.Checks.{Check, firstMet, numberOf}
+use Rattle.refusals.specs.Checks.{Check, check, firstMet, numberOf, Numbered}
 use Rattle.refusals.specs.Outcomes.{Answer, refused, given}
-use Rattle.refusals.proofs.Cursor.{start, all-met, all-passed, number-met, number-passed, is-refused, goes-on}
+use Rattle.refusals.proofs.Cursor.{start, all-met, all-passed, parts-passed, not-met, numbered-both, number-met, number-passed, is-refused, goes-on}
 use Rattle.index.specs.Settings.{settingsChecks, settingsRefusal}
 use Rattle.index.specs.Hash.{fingerprint, home, tagChecks}
 use Rattle.index.specs.Candidates.{offset, candidates, bucketChecks}
@@ -71,24 +73,46 @@ module _ {s : Settings} {n : ℕ} (K : Checked s n) where
     entry-given h k l ep eb =
         ap₂ (λ (x y : ℕ). given (record { print = x; home = y })) ep eb ∙ goes-on entry (left (tagChecks t) h ∙ tag-passes t k l)
 
-  module _ (p b : ℕ) where
+-- ── the candidates, by the number that the check of settings and bucket answered ──
+module _ (s : Settings) (b : ℕ) {n : ℕ} (e : n ≡ numberOf (firstMet (settingsChecks s ++ bucketChecks s b))) where
+  bucket-numbered : Numbered (bucketChecks s b)
+  unfolding bucketChecks
+  bucket-numbered = (omega arith, tt)
+
+  none-met : n ≡ 0 → firstMet (settingsChecks s ++ bucketChecks s b) ≡ none
+  none-met h = number-passed (settingsChecks s ++ bucketChecks s b) e (numbered-both (settingsChecks s) (bucketChecks s b) (numbered s) bucket-numbered) h
+
+  pub list-passed : n ≡ 0 → settingsRefusal s ≡ none
+  list-passed h = parts-passed (settingsChecks s) (bucketChecks s b) (none-met h) .0
+
+  pub list-inside : n ≡ 0 → b < s .buckets
+  unfolding bucketChecks
+  list-inside h = leb-false (s .buckets) b (not-met (check 8 (leb (s .buckets) b)) [] (parts-passed (settingsChecks s) (bucketChecks s b) (none-met h) .1) .0)
+
+  module _ (p : ℕ) where
     abbrev those : Answer (List ℕ)
     those = given (candidates s p b)
 
     -- an answer as the array has it, where it can be read back
     written : (a : Answer (List ℕ)) → a ≡ candidatesAnswer s p b → candidatesAre (listed a) ≡ a → Lists (listed a) (candidatesAnswer s p b)
-    written a e f = rw (sym e) (record { says = f; whole = refl })
+    written a q f = rw (sym q) (record { says = f; whole = refl })
 
     pub list-refused : n ≢ 0 → Lists (listed (refused n)) (candidatesAnswer s p b)
     unfolding candidatesAnswer
     list-refused h =
-        written (refused n) (is-refused those (stopped (bucketChecks s b) h)) (ap (λ (t : Bool). cond t (given []) (refused n)) (ne-eqb n 0 h))
+        written (refused n) (is-refused those (number-met (settingsChecks s ++ bucketChecks s b) e h)) (ap (λ (t : Bool). cond t (given []) (refused n)) (ne-eqb n 0 h))
 
-    pub list-out : n ≡ 0 → s .buckets ≤ b → Lists (listed (refused 8)) (candidatesAnswer s p b)
+    pub list-given : n ≡ 0 → (l : List ℕ) → candidates s p b ≡ l → candidatesAre (listed (given l)) ≡ given l → Lists (listed (given l)) (candidatesAnswer s p b)
     unfolding candidatesAnswer
-    list-out h k = written (refused 8) (is-refused those (left (bucketChecks s b) h ∙ bucket-refused s b k)) refl
+    list-given h l q = written (given l) (ap given (sym q) ∙ goes-on those (none-met h))
 
-    pub list-given : n ≡ 0 → b < s .buckets → (l : List ℕ) → candidates s p b ≡ l → candidatesAre (listed (given l)) ≡ given l
-        → Lists (listed (given l)) (candidatesAnswer s p b)
-    unfolding candidatesAnswer
-    list-given h k l q = written (given l) (ap given (sym q) ∙ goes-on those (left (bucketChecks s b) h ∙ bucket-passes s b k))
+-- the number itself
+module _ {s : Settings} {n : ℕ} (K : Checked s n) (b : ℕ) where
+  pub bucket-stopped : n ≢ 0 → n ≡ numberOf (firstMet (settingsChecks s ++ bucketChecks s b))
+  bucket-stopped h = sym (ap numberOf (stopped K (bucketChecks s b) h))
+
+  pub bucket-out : n ≡ 0 → s .buckets ≤ b → 8 ≡ numberOf (firstMet (settingsChecks s ++ bucketChecks s b))
+  bucket-out h k = sym (ap numberOf (left K (bucketChecks s b) h ∙ bucket-refused s b k))
+
+  pub bucket-in : n ≡ 0 → b < s .buckets → 0 ≡ numberOf (firstMet (settingsChecks s ++ bucketChecks s b))
+  bucket-in h k = sym (ap numberOf (left K (bucketChecks s b) h ∙ bucket-passes s b k))

@@ -15,20 +15,20 @@ use lib.Dec.{eqb, ltb}
 use Rattle.lemmas.specs.Members.{membersBelow, firsts}
 use Rattle.lemmas.proofs.Bools.{or-true-left, or-true-right}
 use Rattle.lemmas.proofs.Members.{members-alike, firsts-doubled, firsts-again, alike-doubled, alike-again}
-use Rattle.refusals.specs.Checks.{check}
+use Rattle.refusals.specs.Checks.{Check, check}
 use Rattle.refusals.specs.Laws.{Reached}
 use Rattle.refusals.proofs.Cursor.{start, met, passed, none-left, all-met, all-passed, parts-passed, not-met}
-use Rattle.index.specs.Settings.{byRule, misshapen, degenerate, formerChecks, formerRefusal, settingsChecks, settingsRefusal, unmasked, modulus}
+use Rattle.index.specs.Settings.{byRule, misshapen, overlong, degenerate, formChecks, formerChecks, formerRefusal, settingsChecks, settingsRefusal, unmasked, modulus}
 use Rattle.index.specs.Hash.{fnv1a, tagHash, fingerprintOf, homeOf, fingerprint, home}
 use Rattle.index.specs.Candidates.{offset, candidates, candidateSet}
 use Rattle.index.specs.DegenerateMasks.{SamePlaces, DegenerateLaws}
 use Rattle.index.specs.declared.Settings.{Settings}
 use Rattle.index.proofs.Good.{Good, former-good, modulus-xor}
-use Rattle.index.proofs.Refusals.{numbered-former, from-two, from-three, from-four}
+use Rattle.index.proofs.Refusals.{numbered-former}
 use Rattle.index.proofs.Laws.{laws-of, plain-list, masked-list, xor-offset}
 
 -- ── the test ──
-pub degenerate-test : (s : Settings) → s .rule ≤ 2 → (eqb (s .rule) 2 && (eqb (s .mask) 0 || eqb (s .mask) (s .buckets - 1))) ≡ degenerate s
+degenerate-test : (s : Settings) → s .rule ≤ 2 → (eqb (s .rule) 2 && (eqb (s .mask) 0 || eqb (s .mask) (s .buckets - 1))) ≡ degenerate s
 unfolding degenerate
 degenerate-test s h = go (s .rule) (eqb (s .mask) 0 || eqb (s .mask) (s .buckets - 1)) h
   where
@@ -81,13 +81,16 @@ module _ (s : Settings) where
       not-ring z = omega (arith, idle d .0)
 
       plain : settingsRefusal (unmasked s) ≡ none
-      unfolding settingsChecks formerChecks degenerate
+      unfolding settingsChecks formChecks formerChecks degenerate
       plain =
           let shape : misshapen s ≡ misshapen (unmasked s) = rw (idle d .0) refl in
           let counted : Bool → Bool = λ b. eqb (s .buckets) 0 || ltb 65536 (s .buckets) || b in
-          let one = not-met (check 1 (ltb 2 (s .rule))) (from-two s) e in
-          let two = not-met (check 2 (ltb (s .width) 4 || ltb 16 (s .width))) (from-three s) (one .1) in
-          let three = not-met (check 3 (counted (misshapen s))) (from-four s) (two .1) in
+          let fourth : List Check = check 4 (overlong s) ∷ [] in
+          let third : List Check = check 3 (counted (misshapen s)) ∷ fourth in
+          let second : List Check = check 2 (ltb (s .width) 4 || ltb 16 (s .width)) ∷ third in
+          let one = not-met (check 1 (ltb 2 (s .rule))) second e in
+          let two = not-met (check 2 (ltb (s .width) 4 || ltb 16 (s .width))) third (one .1) in
+          let three = not-met (check 3 (counted (misshapen s))) fourth (two .1) in
           none-left (passed (passed (passed (passed (passed (start (settingsChecks (unmasked s))) refl) (two .0)) (sym (ap counted shape) ∙ three .0)) refl) refl)
 
       same-modulus : modulus s ≡ modulus (unmasked s)

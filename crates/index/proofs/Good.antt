@@ -15,7 +15,7 @@ use lib.Pow.{pow-lt, pow-mono}
 use Rattle.lemmas.proofs.Bools.{or-false-left, or-false-right, cond-none}
 use Rattle.lemmas.proofs.Powers.{power-of-and, and-of-power}
 use Rattle.refusals.proofs.Cursor.{parts-passed}
-use Rattle.index.specs.Settings.{byRule, powerBelow, powerOfTwo, odd, formerChecks, formerRefusal, settingsChecks, settingsRefusal, half, modulus}
+use Rattle.index.specs.Settings.{byRule, powerBelow, powerOfTwo, odd, formChecks, formerChecks, formerRefusal, settingsChecks, settingsRefusal, half, modulus}
 use Rattle.index.specs.declared.Settings.{Settings}
 
 -- ── powers of two ──
@@ -119,7 +119,7 @@ mask-of-none r m k e l n = eqb-true k 0 (not-false (eqb k 0) (sym (by-pair r (no
 
 -- the former checks are enough
 pub former-good : (s : Settings) → formerRefusal s ≡ none → Good s
-unfolding formerChecks
+unfolding formChecks formerChecks
 former-good s e =
     let m : ℕ = s .buckets in
     let c1 = cond-none (ltb 2 (s .rule)) 1 _ e in
@@ -165,3 +165,10 @@ modulus-below s G = elim (ℕ-discrete (s .rule) 1) [
 -- there is a fingerprint
 pub some-prints : {s : Settings} → Good s → 0 < 2 ^ s .width - 1
 some-prints {s} G = omega (arith, pow-lt {i = 0} {j = s .width} (omega (arith, G .width-low)))
+
+-- of the rules that there are, neither of two is the third
+pub zero-of : (r : ℕ) → r ≤ 2 → r ≢ 1 → r ≢ 2 → r ≡ 0
+zero-of zero h n m = refl
+zero-of (suc zero) h n m = absurd (n refl)
+zero-of (suc (suc zero)) h n m = absurd (m refl)
+zero-of (suc (suc (suc r))) h n m = absurd (omega arith)

@@ -8,13 +8,13 @@ use Prim.Native.Nat.{ℕ, zero, suc, _*_, _-_, _/_, _%_, _^_, _<_}
 use native.Mathlib.Nat.{mod-lt, lt-of-lt-of-le, lt-of-le-of-lt}
 use native.Mathlib.Decide.{ℕ-discrete}
 use native.Mathlib.Omega.{arith}
-use lib.Bits.{bitAnd, bitXor, xor-zero-r, xor-lt, and-le-l}
+use lib.Bits.{bitAnd, bitXor, xor-zero-r, xor-comm, xor-lt, and-le-l}
 use lib.ListN.{length}
 use Rattle.lemmas.specs.Count.{_among_}
 use Rattle.lemmas.specs.Members.{Alike}
 use Rattle.lemmas.proofs.Count.{hit-cases, among-cons, among-nil}
 use Rattle.lemmas.proofs.Members.{alike-refl, members-alike, into-members, from-members, members-ascend}
-use Rattle.lemmas.proofs.Bits.{mask-parts}
+use Rattle.lemmas.proofs.Bits.{xor-assoc, xor-back, mask-parts}
 use Rattle.index.specs.Settings.{byRule, settingsRefusal, half, modulus}
 use Rattle.index.specs.Hash.{fnv1a, tagHash, lowerHalf, fingerprintOf, homeOf, fingerprint, home}
 use Rattle.index.specs.Candidates.{offset, across, coMask, xorSteps, othersBy, others, candidates, candidateSet, classAt, classOf}
@@ -91,6 +91,16 @@ module _ (s : Settings) (G : Good s) where
 
   pub xor-offset : (p : ℕ) → s .rule ≢ 1 → offset s p < s .buckets
   xor-offset p n = rw (modulus-xor s n) at (offset-below p)
+
+  -- what the mask's complement takes of an offset is the offset without what the mask takes
+  pub third-step : (p b : ℕ) → s .rule ≢ 0 → s .rule ≢ 1
+      → bitXor (bitXor b (offset s p)) (bitAnd (offset s p) (s .mask)) ≡ bitXor b (bitAnd (offset s p) (s .buckets - 1 - s .mask))
+  unfolding coMask
+  third-step p b m n =
+      let d = offset s p in
+      let e = bitAnd d (s .mask) in
+      let f = bitAnd d (s .buckets - 1 - s .mask) in
+      xor-assoc b d e ∙ ap (bitXor b) (xor-comm d e ∙ ap (bitXor e) (sym (parts n d (xor-offset p n) m)) ∙ xor-back e f)
 
   xor-inside : (b e : ℕ) → s .rule ≢ 1 → b < s .buckets → e < s .buckets → bitXor b e < s .buckets
   xor-inside b e n hb he = let k = G .power n in rw (k .1) (xor-lt (k .0) b e (rw (k .1) at hb) (rw (k .1) at he))

@@ -4,7 +4,7 @@ use mathlib.Core.Path.{_≡_, refl, ap, _∙_}
 use mathlib.Core.List.{List}
 use Prim.Native.Nat.{ℕ}
 use lib.Bits.{xor-zero-r}
-use Rattle.index.specs.Settings.{degenerate, formerChecks, settingsChecks, half, modulus}
+use Rattle.index.specs.Settings.{degenerate, formChecks, formerChecks, settingsChecks, half, modulus}
 use Rattle.index.specs.Hash.{fnvStart, fnvFrom, fnv1a, tagHash, fingerprintOf, homeOf, fingerprint, home}
 use Rattle.index.specs.Candidates.{offset, coMask, xorSteps, othersBy, others, candidates, candidateSet, classAt, bucketChecks}
 use Rattle.index.specs.Unsalted.{Unsalted}
@@ -27,7 +27,7 @@ module _ (s : Settings) (tag : List ℕ) (e : s .salt ≡ 0) where
   home-plain = ap (homeOf s) unsalted
 
 pub salt-zero : Unsalted
-unfolding degenerate formerChecks settingsChecks bucketChecks offset modulus half coMask xorSteps othersBy others candidates candidateSet classAt
+unfolding degenerate formChecks formerChecks settingsChecks bucketChecks offset modulus half coMask xorSteps othersBy others candidates candidateSet classAt
 salt-zero = record {
   hash = plain;
   print = print-plain;

@@ -51,14 +51,21 @@ misshapen s = byRule (s .rule) (not (powerOfTwo (s .buckets))) (odd (s .buckets)
 unfoldable pub degenerate : Settings → Bool
 degenerate s = byRule (s .rule) false false (eqb (s .mask) 0 || eqb (s .mask) (s .buckets - 1))
 
--- the rows of the place "settings", in their order, as they were while a degenerate mask still passed
-unfoldable pub formerChecks : Settings → List Check
-formerChecks s =
+-- a mask that does not fit the rule or the bucket count
+abbrev pub overlong : Settings → Bool
+overlong s = byRule (s .rule) (not (eqb (s .mask) 0)) (not (eqb (s .mask) 0)) (leb (s .buckets) (s .mask))
+
+-- the rows of the place "settings", in their order: those before the mask's
+unfoldable pub formChecks : Settings → List Check
+formChecks s =
     check 1 (ltb 2 (s .rule))
     ∷ check 2 (ltb (s .width) 4 || ltb 16 (s .width))
     ∷ check 3 (eqb (s .buckets) 0 || ltb 65536 (s .buckets) || misshapen s)
-    ∷ check 4 (byRule (s .rule) (not (eqb (s .mask) 0)) (not (eqb (s .mask) 0)) (leb (s .buckets) (s .mask)))
     ∷ []
+
+-- all of them, as they were while a degenerate mask still passed
+unfoldable pub formerChecks : Settings → List Check
+formerChecks s = formChecks s ++ (check 4 (overlong s) ∷ [])
 
 abbrev pub formerRefusal : Settings → Option ℕ
 formerRefusal s = firstMet (formerChecks s)

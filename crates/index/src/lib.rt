@@ -1,14 +1,16 @@
 // The index rules of a cuckoo filter: settings, hash, fingerprint, offset and candidates. The table
 // above relies on the laws of specs/Laws.antt and on nothing else.
 ghost use mathlib.Core.Path.{_≡_};
-ghost use mathlib.Core.Bool.{not};
+ghost use mathlib.Core.Bool.{not, _||_};
 ghost use Prim.Native.Nat.{_+_, _*_, _-_, _%_, _^_, _<_, _≤_};
 ghost use lib.Bits.{bitXor};
 ghost use mathlib.Core.Option.{none};
-ghost use Rattle.refusals.specs.Checks.{numberOf};
-ghost use Rattle.index.specs.Settings.{byRule, defaultSettings, Representable, degenerate as degenerateMask, formerRefusal, settingsRefusal, modulus, powerOfTwo, odd};
+ghost use mathlib.Core.List.{[], _∷_, _++_};
+ghost use mathlib.Core.Logic.{_≢_};
+ghost use Rattle.refusals.specs.Checks.{firstMet, numberOf};
+ghost use Rattle.index.specs.Settings.{byRule, defaultSettings, Representable, overlong, degenerate, formChecks, formerRefusal, settingsChecks, settingsRefusal, modulus, powerOfTwo, odd};
 ghost use Rattle.index.specs.Hash.{fnvStart, fnvStep, fnvPrime, fingerprintOf, fnvFrom as hashFrom, fnv1a as hashOf, tagHash as hashOfTag};
-ghost use Rattle.index.specs.Candidates.{offset as offsetOf, across as acrossOf};
+ghost use Rattle.index.specs.Candidates.{offset as offsetOf, across as acrossOf, candidates as candidatesOf, bucketChecks};
 ghost use Rattle.index.specs.Answers.{checkedIs, checkedSettings, tagEntryIs, entryOf, offsetIs, offsetAnswer, Lists, candidatesAnswer};
 
 // The settings of a table. Any numbers can be handed in, so each call checks them.
@@ -70,15 +72,17 @@ fn mask_limit(rule: u32, buckets: u32) -> u32
     if rule == 2 { buckets } else { 1 }
 }
 
-// Whether the mask splits no offset: none of its bits, or all, under the masked rule.
-fn degenerate(s: Settings) -> bool
+// Whether the mask is out of its range: 1 to the count less 2 under the masked rule, as one of no bit or of every bit splits no offset,
+// else 0. One range for all rules: every call makes this test.
+fn mask_refused(s: Settings) -> bool
     requires { ⌜ (s .rule ≤ 2) × (0 < s .buckets) ⌝ }
-    ensures { λ r. ⌜ r ≡ degenerateMask s ⌝ }
+    ensures { λ r. ⌜ r ≡ (overlong s || degenerate s) ⌝ }
 {
     let rule = s.rule;
     let mask = s.mask;
-    let last = s.buckets - 1;
-    (rule == 2) & ((mask == 0) | (mask == last))
+    let least = (rule == 2) as u32;
+    let limit = mask_limit(rule, s.buckets) - least;
+    (mask < least) | (mask >= limit)
 }
 
 impl Settings {
@@ -105,15 +109,13 @@ impl Settings {
         }
     }
 
-    // The first number by which the settings were refused while a degenerate mask still passed, 0 where they passed: files of that time
-    // are converted.
-    pub fn former_refusal(self) -> u32
-        ensures { λ r. ⌜ r ≡ numberOf (formerRefusal self) ⌝ }
+    // The first of the checks before the mask's.
+    fn form_refusal(self) -> u32
+        ensures { λ r. ⌜ r ≡ numberOf (firstMet (formChecks self)) ⌝ }
     {
         let rule = self.rule;
         let width = self.width;
         let buckets = self.buckets;
-        let mask = self.mask;
         if rule > 2 {
             return 1;
         }
@@ -132,8 +134,20 @@ impl Settings {
         if misshapen(rule, buckets) {
             return 3;
         }
-        let limit = mask_limit(rule, buckets);
-        if mask >= limit {
+        0
+    }
+
+    // The first number by which the settings were refused while a degenerate mask still passed, 0 where they passed: files of that time
+    // are converted.
+    pub fn former_refusal(self) -> u32
+        ensures { λ r. ⌜ r ≡ numberOf (formerRefusal self) ⌝ }
+    {
+        let n = self.form_refusal();
+        if n != 0 {
+            return n;
+        }
+        let limit = mask_limit(self.rule, self.buckets);
+        if self.mask >= limit {
             return 4;
         }
         0
@@ -143,11 +157,11 @@ impl Settings {
     pub fn refusal(self) -> u32
         ensures { λ r. ⌜ r ≡ numberOf (settingsRefusal self) ⌝ }
     {
-        let n = self.former_refusal();
+        let n = self.form_refusal();
         if n != 0 {
             return n;
         }
-        if degenerate(self) {
+        if mask_refused(self) {
             return 4;
         }
         0
@@ -305,11 +319,40 @@ fn across(l: u32, d: u32, b: u32) -> u32
     }
 }
 
-// The candidates of a fingerprint in a bucket, in order.
+// The first number by which settings and a bucket are refused, 0 where they pass.
+fn bucket_refusal(s: Settings, bucket: u32) -> u32
+    ensures { λ r. ⌜ r ≡ numberOf (firstMet (settingsChecks s ++ bucketChecks s bucket)) ⌝ }
+{
+    let n = s.refusal();
+    if n != 0 {
+        return n;
+    }
+    if bucket >= s.buckets {
+        return 8;
+    }
+    0
+}
+
+// The other candidate under the rules that have two, for offset d.
+fn partner(s: Settings, fingerprint: u16, d: u32, bucket: u32) -> u32
+    requires { ⌜ (settingsRefusal s ≡ none) × (s .rule ≢ 2) × (bucket < s .buckets) × (d ≡ offsetOf s fingerprint) ⌝ }
+    ensures { λ r. ⌜ candidatesOf s fingerprint bucket ≡ bucket ∷ r ∷ [] ⌝ }
+{
+    let rule = s.rule;
+    let m = s.buckets;
+    if rule == 1 {
+        across(m / 2, d, bucket)
+    } else {
+        bucket ^ d
+    }
+}
+
+// The candidates of a fingerprint in a bucket, in order. An answer is put together in as few places as may be, by which the compiler
+// makes a lookup one piece.
 pub fn candidates(s: Settings, fingerprint: u16, bucket: u32) -> CandidateList
     ensures { λ r. ⌜ Lists r (candidatesAnswer s fingerprint bucket) ⌝ }
 {
-    let n = s.refusal();
+    let n = bucket_refusal(s, bucket);
     if n != 0 {
         return CandidateList {
             refusal: n,
@@ -317,36 +360,22 @@ pub fn candidates(s: Settings, fingerprint: u16, bucket: u32) -> CandidateList
             buckets: [0; 4],
         };
     }
-    let m = s.buckets;
-    if bucket >= m {
-        return CandidateList {
-            refusal: 8,
-            count: 0,
-            buckets: [0; 4],
-        };
-    }
     let d = offset_of(s, fingerprint);
     let rule = s.rule;
-    if rule == 0 {
-        return CandidateList {
-            refusal: 0,
-            count: 2,
-            buckets: [bucket, bucket ^ d, 0, 0],
-        };
-    }
-    if rule == 1 {
-        let other = across(m / 2, d, bucket);
+    if rule != 2 {
+        let other = partner(s, fingerprint, d, bucket);
         return CandidateList {
             refusal: 0,
             count: 2,
             buckets: [bucket, other, 0, 0],
         };
     }
-    let k = s.mask;
-    let c = m - 1 - k;
+    // what the mask leaves of the offset is the offset without what it takes
+    let taken = d & s.mask;
+    let last = bucket ^ d;
     CandidateList {
         refusal: 0,
         count: 4,
-        buckets: [bucket, bucket ^ (d & k), bucket ^ (d & c), bucket ^ d],
+        buckets: [bucket, bucket ^ taken, last ^ taken, last],
     }
 }
