@@ -1,5 +1,5 @@
 /*
- * A small list: hold, look up, release, save, read back. Built and run at the top of the repository:
+ * A small list: hold, forecast, look up, release, save, read back. Built and run at the top of the repository:
  *
  *   rt staticlib holdlist
  *   gcc -std=c99 -Wall -Wextra -Werror -pedantic -O2 -Ibindings/c bindings/c/example.c \
@@ -31,6 +31,11 @@ static const uint8_t *bytes_of(const char *tag) { return (const uint8_t *)tag; }
 static int64_t hold(const char *tag)
 {
     return holdlist_hold(&settings, LENT(table), LENT(scratch), bytes_of(tag), strlen(tag));
+}
+
+static int64_t forecast(const char *tag)
+{
+    return holdlist_forecast(&settings, LENT(table), LENT(scratch), bytes_of(tag), strlen(tag));
 }
 
 static int64_t lookup(const uint16_t *cells, const char *tag)
@@ -66,16 +71,23 @@ int main(void)
     }
     printf("held %d tags with %d moves, then %" PRId64 ": %s\n", held, moves, answer, holdlist_refusal_text(answer));
 
+    answer = forecast("ewe 5");
+    printf("forecast of ewe 5 again: %" PRId64 ", %s\n", answer, holdlist_refusal_text(answer));
+
     printf("look up ewe 3: %" PRId64 "\n", lookup(table, "ewe 3"));
     printf("release ewe 3: %" PRId64 "\n", release("ewe 3"));
     printf("look up ewe 3: %" PRId64 "\n", lookup(table, "ewe 3"));
     printf("look up the empty tag: %" PRId64 "\n", lookup(table, ""));
 
-    /* ewe 5 comes under a second order: one release does not clear it */
+    /* ewe 5 comes under a second order, for which there is room now: one release does not clear it */
+    printf("forecast of ewe 5 again: %" PRId64 " moves\n", forecast("ewe 5"));
     printf("hold ewe 5 again: %" PRId64 " moves\n", hold("ewe 5"));
     printf("look up ewe 5: %" PRId64 "\n", lookup(table, "ewe 5"));
     printf("release ewe 5: %" PRId64 "\n", release("ewe 5"));
     printf("look up ewe 5: %" PRId64 "\n", lookup(table, "ewe 5"));
+
+    /* how long the file will be, say to book its sending */
+    printf("file length: %" PRId64 " bytes\n", holdlist_file_length(&settings, LENT(table)));
 
     /* saved, and read into another table, of the size that the file names */
     size = holdlist_file_write(&settings, LENT(table), file, sizeof file);

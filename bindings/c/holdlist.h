@@ -35,12 +35,13 @@
  *   scratch  2 * buckets numbers or more; what they hold before does not matter
  *   tag      1 to 64 bytes
  *
- * UNINITIALISED SCRATCH. Nobody has to set scratch, and holdlist_hold reads words of it that nobody wrote. A checker of
- * uninitialised memory, as valgrind or MSan, sees these reads. They are harmless: scratch is a sparse set. Its first
- * half is the queue of the buckets that a search has reached, and its second half has a word for each bucket that says
- * where in the queue it stands. Such a word is believed only if it names an entry that this call has queued, and that
- * entry names the bucket back; a stale word, whatever it is, fails one of the two. So what scratch held changes neither
- * the answer nor a cell, which is proved. To have such a checker silent, set scratch once, to anything.
+ * UNINITIALISED SCRATCH. Nobody has to set scratch, and holdlist_hold and holdlist_forecast read words of it that nobody
+ * wrote. A checker of uninitialised memory, as valgrind or MSan, sees these reads. They are harmless: scratch is a
+ * sparse set. Its first half is the queue of the buckets that a search has reached, and its second half has a word for
+ * each bucket that says where in the queue it stands. Such a word is believed only if it names an entry that this call
+ * has queued, and that entry names the bucket back; a stale word, whatever it is, fails one of the two. So what scratch
+ * held changes neither the answer nor a cell, which is proved. To have such a checker silent, set scratch once, to
+ * anything.
  *
  * STACK. holdlist_packed_read takes about 8 KB, every other call less than 512 bytes.
  */
@@ -56,9 +57,9 @@ extern "C" {
 
 /* The version, that of the whole repository (its file VERSION). */
 #define HOLDLIST_VERSION_MAJOR 0
-#define HOLDLIST_VERSION_MINOR 6
+#define HOLDLIST_VERSION_MINOR 7
 #define HOLDLIST_VERSION_PATCH 0
-#define HOLDLIST_VERSION "0.6.0"
+#define HOLDLIST_VERSION "0.7.0"
 
 /* Settings, any numbers of which can be handed in. */
 typedef struct {
@@ -232,11 +233,27 @@ int64_t holdlist_hold(const holdlist_settings *settings, uint16_t *table, size_t
                       size_t scratch_count, const uint8_t *tag, size_t tag_count);
 
 /*
+ * What holdlist_hold would answer now: how many entries it would move, or the same refusal. It makes the same search and
+ * writes scratch as it needs, but no cell, so that the table may be one that cannot be written. A holdlist_hold that
+ * comes next, with the same settings, table and tag and as many numbers of scratch, whatever they are, answers what was
+ * forecast, which is proved. Refuses with 1 to 4, 5, 6, 7, 9.
+ */
+int64_t holdlist_forecast(const holdlist_settings *settings, const uint16_t *table, size_t table_count,
+                          uint32_t *scratch, size_t scratch_count, const uint8_t *tag, size_t tag_count);
+
+/*
  * Whether a bucket can be viewed: where the answer is 0, its cells are table + 4 * bucket, four of them. Writes
  * nothing. Refuses with 1 to 4, 5, 8.
  */
 int64_t holdlist_view_check(const holdlist_settings *settings, const uint16_t *table, size_t table_count,
                             uint32_t bucket);
+
+/*
+ * How many bytes the hold file of the list will have. A holdlist_file_write that comes next for the same settings and
+ * table answers this number, or refuses with 16 exactly if its output is shorter, which is proved. Writes nothing.
+ * Refuses with 1 to 4, 5, 17.
+ */
+int64_t holdlist_file_length(const holdlist_settings *settings, const uint16_t *table, size_t table_count);
 
 /*
  * Writes the list as a hold file, settings and all. Answers how many bytes of out it wrote, at most

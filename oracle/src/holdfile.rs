@@ -89,6 +89,21 @@ impl Head {
     }
 }
 
+/// How many bytes the file would have.
+pub fn file_length(settings: Settings, table: &[u16]) -> Answer<usize> {
+    check_table(settings, table)?;
+    check_cells(settings, table)?;
+    Ok(counted(Head::of(settings).as_slice(), table))
+}
+
+/// How many bytes a head and the buckets of a table have: one for each bucket and two for each
+/// filled cell.
+#[inline]
+fn counted(head: &[u8], table: &[u16]) -> usize {
+    let filled = table.iter().filter(|&&cell| cell != 0).count();
+    head.len() + table.len() / CELLS + 2 * filled
+}
+
 /// Writes the file, and answers how many bytes it has.
 pub fn write(settings: Settings, table: &[u16], out: &mut [u8]) -> Answer<usize> {
     check_table(settings, table)?;
@@ -101,8 +116,7 @@ pub(crate) fn write_unchecked(settings: Settings, table: &[u16], out: &mut [u8])
     check_cells(settings, table)?;
     let head = Head::of(settings);
     let head = head.as_slice();
-    let filled = table.iter().filter(|&&cell| cell != 0).count();
-    let length = head.len() + settings.buckets as usize + 2 * filled;
+    let length = counted(head, table);
     let out = out.get_mut(..length).ok_or(16u32)?;
     out[..head.len()].copy_from_slice(head);
     let mut at = head.len();
@@ -409,6 +423,7 @@ mod tests {
                 let length = write(settings, &table, &mut out).unwrap();
                 let head = Head::of(settings).length;
                 assert_eq!(length, head + settings.buckets as usize + 2 * filled);
+                assert_eq!(file_length(settings, &table), Ok(length));
                 assert_eq!(out[length..], before[length..]);
                 let mut back = vec![0xffff; table.len()];
                 assert_eq!(read(&out[..length], &mut back), Ok(settings));
@@ -428,9 +443,17 @@ mod tests {
     fn writer_refuses_in_order() {
         let refused = |settings: Settings, cells: usize, cell: u16, room: usize| {
             let mut out = vec![0xee; room];
-            let answer = write(settings, &vec![cell; cells], &mut out);
+            let table = vec![cell; cells];
+            let answer = write(settings, &table, &mut out);
             assert!(out.iter().all(|&byte| byte == 0xee));
-            answer.unwrap_err()
+            let number = answer.unwrap_err();
+            // The room has no part in the length, and all else is checked as it is here.
+            let length = file_length(settings, &table);
+            match number {
+                16 => assert!(length.unwrap() > room),
+                _ => assert_eq!(length, Err(number)),
+            }
+            number
         };
         assert_eq!(refused(Settings::new(3, 3, 3, 3), 3, 99, 0), 1);
         assert_eq!(refused(Settings::new(PLAIN, 17, 3, 3), 3, 99, 0), 2);
@@ -444,6 +467,79 @@ mod tests {
         assert_eq!(refused(Settings::new(PLAIN, 15, 2, 0), 8, 1 << 15, 99), 17);
         assert_eq!(refused(Settings::new(PLAIN, 4, 2, 0), 8, 15, 21), 16);
         assert_eq!(refused(Settings::new(PLAIN, 16, 2, 0), 8, 0xffff, 0), 16);
+    }
+
+    #[test]
+    fn known_lengths() {
+        let example = Settings::new(PLAIN, 4, 1, 0);
+        assert_eq!(file_length(example, &[0, 9, 0, 3]), Ok(EXAMPLE.len()));
+        let salted = example.with_salt(SOME_SALT);
+        assert_eq!(file_length(salted, &[0, 9, 0, 3]), Ok(SALTED.len()));
+        // The least of every head, and the most of all.
+        let mut table = vec![0; 4 * 4_096];
+        assert_eq!(file_length(DEFAULTS, &table), Ok(1 + 4_096));
+        table[16_383] = 4_095;
+        assert_eq!(file_length(DEFAULTS, &table), Ok(1 + 4_096 + 2));
+        table[0] = 4_096;
+        assert_eq!(file_length(DEFAULTS, &table), Err(17));
+        let most = Settings::new(MASKED, 16, 65_536, 1).with_salt(1);
+        let length = HEAD + 9 * 65_536;
+        assert_eq!(file_length(most, &vec![0xffff; 4 * 65_536]), Ok(length));
+    }
+
+    /// Tables of any cells, good and bad, of any length: what the writer answers with room enough.
+    #[test]
+    fn lengths_are_what_the_writer_answers() {
+        let mut mix = Mix(17);
+        let (mut maps, mut seen) = (std::collections::HashSet::new(), [0; 18]);
+        for _ in 0..40_000 {
+            let width = [12, 4 + mix.below(13)][mix.below(2) as usize];
+            let salt = u64::from(mix.below(2)) << mix.below(64);
+            let (rule, buckets, mask) = match mix.below(7) {
+                0 => (PLAIN, 1 << mix.below(5), 0),
+                1 | 2 => (RING, 2 + 2 * mix.below(12), 0),
+                3 | 4 => (MASKED, 8, 1 + mix.below(6)),
+                // Now and then those for which the bucket count has no field, or some fault.
+                5 if mix.below(40) == 0 => {
+                    let rule = mix.below(3);
+                    (rule, 4_096, u32::from(rule == MASKED))
+                }
+                _ => (mix.below(4), mix.below(10), mix.below(2)),
+            };
+            let settings = Settings::new(rule, width, buckets, mask).with_salt(salt);
+            let good = 4 * buckets as usize;
+            let cells = match mix.below(12) {
+                0 => mix.below(good as u64 + 5) as usize,
+                _ => good,
+            };
+            let (empty, wide) = (mix.below(101), mix.below(3) == 0);
+            let mut table: Vec<u16> = (0..cells)
+                .map(|_| match mix.below(100) < empty {
+                    true => 0,
+                    false => mix.below(1 << width) as u16,
+                })
+                .collect();
+            if wide && cells > 0 {
+                table[mix.below(cells as u64) as usize] = mix.draw() as u16;
+            }
+            let length = file_length(settings, &table);
+            let mut out = vec![0; HEAD + 9 * buckets as usize];
+            assert_eq!(length, write(settings, &table, &mut out), "{settings:?}");
+            match length {
+                Ok(length) => {
+                    maps.insert(out[0]);
+                    assert_eq!(write(settings, &table, &mut out[..length]), Ok(length));
+                    let short = write(settings, &table, &mut out[..length - 1]);
+                    assert_eq!(short, Err(16), "{settings:?}");
+                }
+                Err(number) => seen[number as usize] += 1,
+            }
+        }
+        // Each rule with any of width, bucket count and salt.
+        assert_eq!(maps.len(), 3 * 8, "{maps:?}");
+        for number in [1, 3, 4, 5, 17] {
+            assert!(seen[number] > 100, "{seen:?}");
+        }
     }
 
     #[test]

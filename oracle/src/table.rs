@@ -1,7 +1,8 @@
-//! The table: clear, lookup, release, hold and the bucket view, on cells and scratch that the
-//! caller lends.
+//! The table: clear, lookup, release, hold and its forecast, and the bucket view, on cells and
+//! scratch that the caller lends.
 
 use crate::index::{Answer, Settings};
+use std::iter;
 
 /// Cells in a bucket.
 const CELLS: usize = 4;
@@ -109,14 +110,27 @@ pub(crate) fn hold_unchecked(
         table[cell] = fingerprint;
         return Ok(0);
     }
-    let (queue, places) = scratch[..2 * buckets].split_at_mut(buckets);
-    let mut visited = Visited {
-        queue,
-        places,
-        count: 0,
-    };
+    let mut visited = Visited::none(scratch, buckets);
     let (end, last) = search(settings, table, &mut visited, candidates).ok_or(9u32)?;
     Ok(relocate(table, &visited, end, last, fingerprint))
+}
+
+/// What a hold of the tag would answer now: the same search, with no entry shifted or put in.
+pub fn forecast(settings: Settings, table: &[u16], scratch: &mut [u32], tag: &[u8]) -> Answer<u32> {
+    check_table(settings, table)?;
+    let buckets = settings.buckets as usize;
+    if scratch.len() < 2 * buckets {
+        return Err(6);
+    }
+    let (fingerprint, home) = settings.entry_unchecked(tag)?;
+    let candidates = settings.candidates_unchecked(fingerprint, home);
+    let candidates = candidates.as_slice();
+    if first_with(table, candidates, 0).is_some() {
+        return Ok(0);
+    }
+    let mut visited = Visited::none(scratch, buckets);
+    let (_, last) = search(settings, table, &mut visited, candidates).ok_or(9u32)?;
+    Ok(visited.path(last).count() as u32)
 }
 
 /// How a bucket was reached: through this cell of the table, or as a candidate of the tag.
@@ -134,10 +148,20 @@ struct Visited<'a> {
     count: usize,
 }
 
-impl Visited<'_> {
+impl<'a> Visited<'a> {
     const LOW: u32 = 0xffff;
     /// Stands for a cell where a bucket is a candidate of the tag.
     const ROOT: u32 = CELLS as u32;
+
+    /// No bucket yet, in scratch that is long enough for all of them.
+    fn none(scratch: &'a mut [u32], buckets: usize) -> Self {
+        let (queue, places) = scratch[..2 * buckets].split_at_mut(buckets);
+        Visited {
+            queue,
+            places,
+            count: 0,
+        }
+    }
 
     fn marked(&self, bucket: u32) -> bool {
         let place = (self.places[bucket as usize] & Self::LOW) as usize;
@@ -168,6 +192,11 @@ impl Visited<'_> {
         }
         let parent = self.queue[(word & Self::LOW) as usize] >> 16;
         Some(start(parent) + cell as usize)
+    }
+
+    /// The cells of a path, from the last one back to that of a candidate.
+    fn path(&self, last: usize) -> impl Iterator<Item = usize> + '_ {
+        iter::successors(Some(last), |&cell| self.came_from((cell / CELLS) as u32))
     }
 }
 
@@ -215,13 +244,11 @@ fn relocate(
     fingerprint: u16,
 ) -> u32 {
     let mut space = end;
-    let mut from = Some(last);
     let mut moves = 0;
-    while let Some(cell) = from {
+    for cell in visited.path(last) {
         table[space] = table[cell];
         space = cell;
         moves += 1;
-        from = visited.came_from((cell / CELLS) as u32);
     }
     table[space] = fingerprint;
     moves

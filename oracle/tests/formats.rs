@@ -300,6 +300,7 @@ fn files() {
         let table = cells(s, &mut mix);
         let mut bytes = file_of(s, &table);
         let mut out = vec![0; bytes.len()];
+        assert_eq!(holdfile::file_length(s, &table), Ok(bytes.len()));
         assert_eq!(holdfile::write(s, &table, &mut out), Ok(bytes.len()));
         assert_eq!(out, bytes);
         damage(&mut bytes, &mut mix);

@@ -3,7 +3,7 @@
 use oracle::index::{self, Answer, Settings, MASKED, PLAIN, RING};
 use oracle::model::{Class, Model};
 use oracle::requests::{masks, Mix};
-use oracle::table::{clear, hold, lookup, release, view, view_check};
+use oracle::table::{clear, forecast, hold, lookup, release, view, view_check};
 use std::collections::{HashSet, VecDeque};
 
 fn cleared(settings: Settings) -> Vec<u16> {
@@ -124,7 +124,10 @@ impl Pair {
 
     fn hold(&mut self, tag: &[u8], scratch: &mut [u32]) {
         let before = (self.table.clone(), scratch.to_vec());
+        let mut other: Vec<u32> = scratch.iter().map(|word| !word).collect();
+        let told = forecast(self.settings, &self.table, &mut other, tag);
         let answer = hold(self.settings, &mut self.table, scratch, tag);
+        assert_eq!(told, answer);
         assert_eq!(answer.map(|_| ()), self.model.hold(tag, scratch.len()));
         match answer {
             Err(9) => assert_eq!(self.table, before.0),
@@ -284,7 +287,9 @@ fn searches_over_any_cells() {
             let mut scratch = dirty(round % 6, cells / 2 + mix.below(3) as usize, &mut mix);
             for _ in 0..4 {
                 let tag = tag(mix.draw() as u32);
+                let told = forecast(settings, &table, &mut scratch, &tag);
                 let answer = hold(settings, &mut table, &mut scratch, &tag);
+                assert_eq!(told, answer);
                 assert_eq!(answer, word_for_word(settings, &mut by_word, &tag));
                 assert_eq!(table, by_word);
                 match answer {
@@ -317,7 +322,9 @@ fn large_tables() {
         let mut full = 0;
         while full < 20 {
             let tag = mix.bytes(8);
+            let told = forecast(settings, &table, &mut scratch, &tag);
             let answer = hold(settings, &mut table, &mut scratch, &tag);
+            assert_eq!(told, answer);
             assert_eq!(answer, word_for_word(settings, &mut by_word, &tag));
             full += u32::from(answer == Err(9));
         }
@@ -361,6 +368,7 @@ fn refusals_in_order() {
         let mut table = before.clone();
         let mut scratch = dirt.clone();
         assert_eq!(hold(settings, &mut table, &mut scratch, &tag), Err(number));
+        assert_eq!(forecast(settings, &table, &mut scratch, &tag), Err(number));
         // Scratch does not concern the others, nor a tag the view.
         let other = if number == 6 { 7 } else { number };
         assert_eq!(release(settings, &mut table, &tag), Err(other));
@@ -373,6 +381,142 @@ fn refusals_in_order() {
             assert_eq!(clear(settings, &mut table), Err(number));
         }
         assert_eq!((table, scratch), (before, dirt));
+    }
+}
+
+/// How often forecasts said what.
+#[derive(Default, Debug)]
+struct Told {
+    at_once: u32,
+    one_move: u32,
+    more_moves: u32,
+    full: u32,
+}
+
+impl Told {
+    fn add(&mut self, answer: Answer<u32>) {
+        match answer {
+            Ok(0) => self.at_once += 1,
+            Ok(1) => self.one_move += 1,
+            Ok(_) => self.more_moves += 1,
+            Err(number) => {
+                assert_eq!(number, 9);
+                self.full += 1;
+            }
+        }
+    }
+
+    fn each_above(&self, count: u32) {
+        let all = [self.at_once, self.one_move, self.more_moves, self.full];
+        assert!(all.iter().all(|&n| n > count), "{self:?}");
+    }
+}
+
+/// A forecast is the answer of a hold on a copy, and the one that the rules give word for word: under
+/// each rule, at every load, with prints of 2^w and above among the cells, and whatever scratch held.
+#[test]
+fn forecasts_are_the_answers_of_holds() {
+    let mut mix = Mix(9);
+    let mut told: [Told; 3] = Default::default();
+    for settings in small_settings() {
+        for round in 0..60 {
+            let settings = salted(settings, round, &mut mix);
+            let cells = 4 * settings.buckets as usize;
+            let values = match round % 3 {
+                0 => 1 << 16,
+                1 => 1 << settings.width,
+                // Few fingerprints share their candidates, and soon jam.
+                _ => 3,
+            };
+            let mut table: Vec<u16> = (0..cells)
+                .map(|_| 1 + mix.below(values - 1) as u16)
+                .collect();
+            let empty = match round % 5 {
+                0 => cells,
+                _ => mix.below(5) as usize,
+            };
+            for _ in 0..empty {
+                table[mix.below(cells as u64) as usize] = 0;
+            }
+            let words = cells / 2 + mix.below(3) as usize;
+            for _ in 0..6 {
+                let tag = tag(mix.draw() as u32);
+                let before = table.clone();
+                let mut scratch = dirty(mix.below(6), words, &mut mix);
+                let answer = forecast(settings, &table, &mut scratch, &tag);
+                assert_eq!(table, before);
+                let (mut copy, mut by_word) = (table.clone(), table.clone());
+                let mut scratch = dirty(mix.below(6), words, &mut mix);
+                let held = hold(settings, &mut copy, &mut scratch, &tag);
+                assert_eq!(answer, held, "{settings:?} {tag:?}");
+                assert_eq!(answer, word_for_word(settings, &mut by_word, &tag));
+                told[settings.rule as usize].add(answer);
+                // Towards full from some, and from others as they were.
+                if round % 2 == 0 {
+                    table = copy;
+                }
+            }
+        }
+    }
+    for rule in told {
+        rule.each_above(300);
+    }
+}
+
+/// Every choice of faults at once: the forecast is refused as the hold is, by the first of them, and
+/// up to the tag's scratch is as it was.
+#[test]
+fn forecasts_check_as_holds_do() {
+    let mut mix = Mix(10);
+    let mut seen = [0; 10];
+    for (settings, number) in [
+        (Settings::new(3, 17, 7, 9), 1),
+        (Settings::new(u32::MAX, 12, 8, 0), 1),
+        (Settings::new(PLAIN, 3, 7, 9), 2),
+        (Settings::new(RING, 17, 8, 0), 2),
+        (Settings::new(PLAIN, 12, 0, 9), 3),
+        (Settings::new(RING, 12, 7, 0), 3),
+        (Settings::new(MASKED, 12, 6, 2), 3),
+        (Settings::new(PLAIN, 12, 8, 1), 4),
+        (Settings::new(RING, 4, 6, 6), 4),
+        (Settings::new(MASKED, 16, 8, 7), 4),
+        (Settings::new(PLAIN, 12, 8, 0), 0),
+        (Settings::new(PLAIN, 4, 1, 0), 0),
+        (Settings::new(RING, 4, 6, 0), 0),
+        (Settings::new(MASKED, 16, 8, 5), 0),
+    ] {
+        let good = 4 * settings.buckets as usize;
+        for cells in [good, 0, good.wrapping_sub(1), good + 1, good + 4] {
+            for words in [good / 2, good, 0, (good / 2).wrapping_sub(1)] {
+                // Less than none.
+                if cells > 99 || words > 99 {
+                    continue;
+                }
+                for length in [1, 64, 0, 65, 200] {
+                    let tag = mix.bytes(length);
+                    // No search finds an empty cell.
+                    let full = vec![1; cells];
+                    let dirt = dirty(mix.below(6), words, &mut mix);
+                    let mut scratch = dirt.clone();
+                    let answer = forecast(settings, &full, &mut scratch, &tag);
+                    let expected = match number {
+                        0 if cells != good => 5,
+                        0 if words < good / 2 => 6,
+                        0 if !(1..=64).contains(&length) => 7,
+                        0 => 9,
+                        number => number,
+                    };
+                    assert_eq!(answer, Err(expected), "{settings:?} {cells} {words}");
+                    assert!(scratch == dirt || expected == 9);
+                    let (mut copy, mut scratch) = (full.clone(), dirt);
+                    assert_eq!(hold(settings, &mut copy, &mut scratch, &tag), answer);
+                    seen[expected as usize] += 1;
+                }
+            }
+        }
+    }
+    for number in [1, 2, 3, 4, 5, 6, 7, 9] {
+        assert!(seen[number] >= 10, "{seen:?}");
     }
 }
 

@@ -125,6 +125,36 @@ impl HoldList {
         Ok(moves)
     }
 
+    /// What [`HoldList::hold`] would answer now: how many other entries it would move, or its refusal.
+    /// If nothing comes between the two, the hold answers what was forecast.
+    ///
+    /// Cells, entries and longest relocation stay as they are. `&mut` is for the list's scratch, where
+    /// the search takes its notes.
+    ///
+    /// ```
+    /// use holdlist::{HoldList, Refusal, Settings};
+    ///
+    /// let mut list = HoldList::new(Settings::ring(12, 10))?;
+    /// for i in 0.. {
+    ///     let ewe = format!("ewe {i}");
+    ///     let forecast = list.forecast(&ewe);
+    ///     assert_eq!(list.len(), i); // it was not held by this
+    ///     assert_eq!(list.hold(&ewe), forecast);
+    ///     if forecast == Err(Refusal::Full) {
+    ///         break;
+    ///     }
+    /// }
+    /// // some of these holds moved entries
+    /// assert!(list.stats().longest > 0);
+    /// # Ok::<(), Refusal>(())
+    /// ```
+    ///
+    /// # Errors
+    /// [`Refusal::Tag`], [`Refusal::Full`].
+    pub fn forecast(&mut self, tag: impl AsRef<[u8]>) -> Result<u32, Refusal> {
+        raw::forecast(&self.settings, &self.table, &mut self.scratch, tag.as_ref())
+    }
+
     /// Releases a tag: one entry of it, and `false` if there is none.
     ///
     /// Release only what was held: of a tag that was not, the entry may be another's, with the same
@@ -209,6 +239,22 @@ impl HoldList {
         sure(raw::clear(&self.settings, &mut self.table));
         self.entries = 0;
         self.longest = 0;
+    }
+
+    /// How many bytes [`HoldList::save`] would give now.
+    ///
+    /// ```
+    /// use holdlist::HoldList;
+    ///
+    /// let mut list = HoldList::default();
+    /// assert_eq!(list.file_length(), 4097);
+    /// // an entry takes two bytes
+    /// list.hold("ewe")?;
+    /// assert_eq!((list.file_length(), list.save().len()), (4099, 4099));
+    /// # Ok::<(), holdlist::Refusal>(())
+    /// ```
+    pub fn file_length(&self) -> usize {
+        sure(raw::file_length(&self.settings, &self.table))
     }
 
     /// The list as a hold file, with its settings.

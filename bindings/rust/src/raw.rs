@@ -55,11 +55,25 @@ mod c {
             tag: *const u8,
             tag_count: usize,
         ) -> i64;
+        pub fn holdlist_forecast(
+            settings: *const Settings,
+            table: *const u16,
+            table_count: usize,
+            scratch: *mut u32,
+            scratch_count: usize,
+            tag: *const u8,
+            tag_count: usize,
+        ) -> i64;
         pub fn holdlist_view_check(
             settings: *const Settings,
             table: *const u16,
             table_count: usize,
             bucket: u32,
+        ) -> i64;
+        pub fn holdlist_file_length(
+            settings: *const Settings,
+            table: *const u16,
+            table_count: usize,
         ) -> i64;
         pub fn holdlist_file_write(
             settings: *const Settings,
@@ -206,8 +220,31 @@ pub fn hold(
     .map(|moves| moves as u32)
 }
 
+pub fn forecast(
+    s: &Settings,
+    table: &[u16],
+    scratch: &mut [u32],
+    tag: &[u8],
+) -> Result<u32, Refusal> {
+    call!(
+        holdlist_forecast,
+        s,
+        table.as_ptr(),
+        table.len(),
+        scratch.as_mut_ptr(),
+        scratch.len(),
+        tag.as_ptr(),
+        tag.len()
+    )
+    .map(|moves| moves as u32)
+}
+
 pub fn view_check(s: &Settings, table: &[u16], bucket: u32) -> Result<(), Refusal> {
     call!(holdlist_view_check, s, table.as_ptr(), table.len(), bucket).map(drop)
+}
+
+pub fn file_length(s: &Settings, table: &[u16]) -> Result<usize, Refusal> {
+    call!(holdlist_file_length, s, table.as_ptr(), table.len())
 }
 
 pub fn file_write(s: &Settings, table: &[u16], out: &mut [u8]) -> Result<usize, Refusal> {
@@ -293,7 +330,12 @@ mod tests {
             hold(&S, &mut table, &mut scratch, b"a"),
             Err(Refusal::Table)
         );
+        assert_eq!(
+            forecast(&S, &table, &mut scratch, b"a"),
+            Err(Refusal::Table)
+        );
         assert_eq!(view_check(&S, &table, 0), Err(Refusal::Table));
+        assert_eq!(file_length(&S, &table), Err(Refusal::Table));
         assert_eq!(file_write(&S, &table, &mut out), Err(Refusal::Table));
         assert_eq!(packed_write(&S, &table, &mut out), Err(Refusal::Table));
         assert_eq!(packed_read(&S, &[0x33, 0], &mut table), Err(Refusal::Table));
@@ -309,6 +351,8 @@ mod tests {
         let bad = Settings::plain(3, 1);
         assert_eq!(clear(&bad, &mut []), Err(Refusal::Width));
         assert_eq!(lookup(&bad, &[], b""), Err(Refusal::Width));
+        assert_eq!(forecast(&bad, &[], &mut [], b""), Err(Refusal::Width));
+        assert_eq!(file_length(&bad, &[]), Err(Refusal::Width));
         assert_eq!(packed_read(&bad, &[], &mut []), Err(Refusal::Width));
     }
 
@@ -320,8 +364,13 @@ mod tests {
             hold(&S, &mut table, &mut scratch, b""),
             Err(Refusal::Scratch)
         );
+        assert_eq!(
+            forecast(&S, &table, &mut scratch, b""),
+            Err(Refusal::Scratch)
+        );
         assert_eq!((table, scratch), ([0; 4], [3]));
         // more than is needed passes
+        assert_eq!(forecast(&S, &table, &mut [3; 7], b"a"), Ok(0));
         assert_eq!(hold(&S, &mut table, &mut [3; 7], b"a"), Ok(0));
     }
 
@@ -333,6 +382,10 @@ mod tests {
             hold(&S, &mut table, &mut scratch, &[0; 65]),
             Err(Refusal::Tag)
         );
+        assert_eq!(
+            forecast(&S, &table, &mut scratch, &[0; 65]),
+            Err(Refusal::Tag)
+        );
         assert_eq!(scratch, [3; 2]);
     }
 
@@ -340,6 +393,7 @@ mod tests {
     fn a_cell_too_large_is_refused_with_17_before_a_short_output() {
         let table = [0, 16, 0, 0];
         let mut out = [9u8; 1];
+        assert_eq!(file_length(&S, &table), Err(Refusal::Cell));
         assert_eq!(file_write(&S, &table, &mut out), Err(Refusal::Cell));
         assert_eq!(packed_write(&S, &table, &mut out), Err(Refusal::Cell));
         assert_eq!(out, [9]);
@@ -349,6 +403,7 @@ mod tests {
     fn a_short_output_is_refused_with_16() {
         let table = [0, 9, 0, 3];
         let mut out = [9u8; 8];
+        assert_eq!(file_length(&S, &table), Ok(9));
         assert_eq!(file_write(&S, &table, &mut out), Err(Refusal::Output));
         assert_eq!(
             packed_write(&S, &table, &mut out[..1]),
@@ -463,7 +518,12 @@ mod tests {
                 c::holdlist_hold(&eight, null_mut(), 0, null_mut(), 0, null(), 0),
                 -5
             );
+            assert_eq!(
+                c::holdlist_forecast(&eight, null(), 0, null_mut(), 0, null(), 0),
+                -5
+            );
             assert_eq!(c::holdlist_view_check(&eight, null(), 0, 0), -5);
+            assert_eq!(c::holdlist_file_length(&eight, null(), 0), -5);
             assert_eq!(c::holdlist_file_write(&eight, null(), 0, null_mut(), 0), -5);
             assert_eq!(
                 c::holdlist_file_read(null(), 0, null_mut(), 0, &mut settings),
@@ -483,6 +543,10 @@ mod tests {
             assert_eq!(c::holdlist_lookup(&S, table.as_ptr(), 4, null(), 0), -7);
             assert_eq!(
                 c::holdlist_hold(&S, table.as_mut_ptr(), 4, null_mut(), 0, null(), 0),
+                -6
+            );
+            assert_eq!(
+                c::holdlist_forecast(&S, table.as_ptr(), 4, null_mut(), 0, null(), 0),
                 -6
             );
             assert_eq!(

@@ -143,6 +143,7 @@ fn a_tag_of_bad_length_is_refused_with_7() {
     let before = list.clone();
     for bad in [vec![], vec![1; 65], vec![1; 1000]] {
         assert_eq!(list.hold(&bad), Err(Refusal::Tag));
+        assert_eq!(list.forecast(&bad), Err(Refusal::Tag));
         assert_eq!(list.copies(&bad), Err(Refusal::Tag));
         assert_eq!(list.is_held(&bad), Err(Refusal::Tag));
         assert_eq!(list.release(&bad), Err(Refusal::Tag));
@@ -188,10 +189,12 @@ fn a_full_list_is_refused_with_9_and_stays() {
             list.hold("ewe").unwrap();
         }
         let before = list.clone();
+        assert_eq!(list.forecast("ewe"), Err(Refusal::Full));
         assert_eq!(list.hold("ewe"), Err(Refusal::Full));
         assert_eq!((list.len(), list.stats().load), (room, 1.0));
         assert_eq!(list, before);
         assert_eq!(list.release("ewe"), Ok(true));
+        assert_eq!(list.forecast("ewe"), Ok(0));
         assert_eq!(list.hold("ewe"), Ok(0));
     }
 }
@@ -407,6 +410,7 @@ fn a_saved_list_is_read_back() {
         for tags in [0, 1, s.buckets as usize * 2] {
             let list = list_of(s, tags);
             let bytes = list.save();
+            assert_eq!(list.file_length(), bytes.len(), "{s:?}");
             let copy = HoldList::load(&bytes).unwrap();
             assert_eq!(copy, list, "{s:?}");
             assert_eq!((copy.len(), copy.settings()), (tags, s));
@@ -464,6 +468,85 @@ fn a_list_goes_on_after_it_is_read_back() {
     }
     assert_eq!(list, copy);
     assert_eq!(list.len(), copy.len());
+}
+
+// ── forecasts ──
+
+/// Small lists, whose holds need moves before they are full.
+const EVERY_RULE: [Settings; 4] = [
+    Settings::plain(12, 64),
+    Settings::ring(12, 50),
+    Settings::masked(9, 32, 21),
+    Settings::ring(16, 100).with_salt(2_027),
+];
+
+#[test]
+fn a_forecast_is_what_the_hold_that_comes_next_answers() {
+    for s in EVERY_RULE {
+        let mut list = HoldList::new(s).unwrap();
+        let mut refused = 0;
+        for i in 0.. {
+            // the one has scratch as it was made, the other as the last search left it
+            let fresh = HoldList::load(&list.save()).unwrap().forecast(tag(i));
+            let forecast = list.forecast(tag(i));
+            assert_eq!(fresh, forecast, "{s:?}, tag {i}");
+            assert_eq!(list.hold(tag(i)), forecast, "{s:?}, tag {i}");
+            if forecast == Err(Refusal::Full) {
+                // which makes room again
+                assert_eq!(list.release(tag(refused)), Ok(true));
+                refused += 1;
+            }
+            if refused == 30 {
+                break;
+            }
+        }
+        assert!(list.stats().longest > 1, "{s:?}");
+    }
+}
+
+#[test]
+fn a_forecast_changes_nothing() {
+    for s in EVERY_RULE {
+        let (mut list, held) = filled(s);
+        for room in [false, true] {
+            if room {
+                assert_eq!(list.release(tag(0)), Ok(true));
+                // read back, so that no hold of it has moved any entry
+                list = HoldList::load(&list.save()).unwrap();
+            }
+            let before = list.clone();
+            let all = |list: &mut HoldList| -> Vec<_> {
+                (0..2 * held).map(|i| list.forecast(tag(i))).collect()
+            };
+            let answers = all(&mut list);
+            assert_eq!(all(&mut list), answers, "{s:?}");
+            assert_eq!(list.forecast(""), Err(Refusal::Tag));
+            let moved = answers.iter().any(|a| matches!(a, Ok(moves) if *moves > 0));
+            assert!(moved || !room, "{s:?}");
+            assert!(room || answers[held] == Err(Refusal::Full), "{s:?}");
+            assert_eq!(list, before);
+            assert_eq!((list.len(), list.stats()), (before.len(), before.stats()));
+        }
+        assert_eq!(list.stats().longest, 0, "{s:?}");
+    }
+}
+
+#[test]
+fn the_length_is_that_of_the_file() {
+    for s in EVERY_RULE {
+        let mut list = HoldList::new(s).unwrap();
+        let empty = list.file_length();
+        for i in 0..5 * s.buckets as usize {
+            let _ = list.hold(tag(i));
+            if i % 4 == 3 {
+                list.release(tag(i / 2)).unwrap();
+            }
+            assert_eq!(list.file_length(), list.save().len(), "{s:?}");
+            assert_eq!(list.file_length(), empty + 2 * list.len(), "{s:?}");
+        }
+        list.clear();
+        assert_eq!(list.file_length(), empty, "{s:?}");
+    }
 }
 
 // ── salts ──
@@ -572,6 +655,7 @@ fn lists_of_the_largest_sizes_work() {
         assert_eq!(list.view(s.buckets), Err(Refusal::Bucket));
 
         let bytes = list.save();
+        assert_eq!(list.file_length(), bytes.len());
         assert_eq!(HoldList::load(&bytes).unwrap(), list);
         let packed = list.pack();
         let copy = HoldList::unpack(s, &packed).unwrap();
@@ -583,6 +667,7 @@ fn lists_of_the_largest_sizes_work() {
         }
         assert!(list.is_empty());
         assert_eq!(list.save().len(), bytes.len() - 2 * tags);
+        assert_eq!(list.file_length(), bytes.len() - 2 * tags);
     }
 }
 

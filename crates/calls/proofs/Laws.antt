@@ -18,7 +18,7 @@ use Rattle.calls.proofs.Weights.{weightAt, total-entries}
 use Rattle.calls.proofs.Model.{step-hold, step-release, step-lookup, step-call}
 use Rattle.calls.proofs.Demand.{fresh-agrees}
 pub use Rattle.calls.proofs.Refusals.{table-check-laws}
-pub use Rattle.calls.proofs.Writers.{writer-laws}
+pub use Rattle.calls.proofs.Writers.{writer-laws, length-laws}
 
 pub scan-laws : ScanLaws
 scan-laws = record { most = scan-most; scans = λ c p bs. first-finds c p (lowestAt c p) (scan-finds c p) bs; empties = λ c bs. first-finds c 0 (lowestEmpty c) (empty-finds c) bs }

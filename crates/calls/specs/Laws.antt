@@ -20,7 +20,7 @@ use Rattle.index.specs.declared.Settings.{Settings}
 use Rattle.calls.specs.Cells.{cell, copiesAt, lowestAt, lowestEmpty, inFirst, filledCount}
 use Rattle.calls.specs.Search.{Node, marked, found, searchFor}
 use Rattle.calls.specs.Calls.{Said, Result, tableChecks, scratchChecks, Sound, fresh, copiesIn, lookupIn, releaseIn, holdIn}
-use Rattle.calls.specs.WrittenForms.{anyFrom, written}
+use Rattle.calls.specs.WrittenForms.{anyFrom, written, lengthOf}
 use Rattle.calls.specs.Multiset.{count, Same}
 use Rattle.calls.specs.AssignmentDecided.{decAssignable}
 use Rattle.calls.specs.Model.{Call, toHold, toRelease, toLookup, modelCall}
@@ -86,6 +86,17 @@ pub record WriterLaws (s : Settings) (c bytes out : List ℕ) : Type 0 where
   pub short : Sound s c → anyFrom (2 ^ s .width) c ≡ false → length out < length bytes → outcome (refused 16) out ≡ written s c bytes out
   pub writes : Sound s c → anyFrom (2 ^ s .width) c ≡ false → length bytes ≤ length out → outcome (given (length bytes)) (bytes ++ drop (length bytes) out) ≡ written s c bytes out
   pub accepted : (n : ℕ) (l : List ℕ) → written s c bytes out ≡ outcome (given n) l → Wrote s c bytes n l
+
+-- the length of a form, foretold: its checks in the order in which the code makes them, what it tells, and what the writer that is called
+-- next does with any output
+pub record LengthLaws (s : Settings) (c bytes : List ℕ) : Type 0 where
+  pub stopped : {n : ℕ} → n ≡ numberOf (firstMet (tableChecks s c)) → n ≢ 0 → refused n ≡ lengthOf s c bytes
+  pub wide : Sound s c → anyFrom (2 ^ s .width) c ≡ true → refused 17 ≡ lengthOf s c bytes
+  pub gives : Sound s c → anyFrom (2 ^ s .width) c ≡ false → given (length bytes) ≡ lengthOf s c bytes
+  pub tells : (n : ℕ) → lengthOf s c bytes ≡ given n → Sound s c × (n ≡ length bytes)
+  pub next-refused : (n : ℕ) (out : List ℕ) → lengthOf s c bytes ≡ refused n → written s c bytes out ≡ outcome (refused n) out
+  pub next-short : (n : ℕ) (out : List ℕ) → lengthOf s c bytes ≡ given n → length out < n → written s c bytes out ≡ outcome (refused 16) out
+  pub next-fits : (n : ℕ) (out : List ℕ) → lengthOf s c bytes ≡ given n → n ≤ length out → written s c bytes out ≡ outcome (given n) (bytes ++ drop n out)
 
 -- ── table and model ──
 -- what a cell of bucket b with value v weighs: what its class does, and nothing if it is empty

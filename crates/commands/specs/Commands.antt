@@ -80,6 +80,7 @@ keywords =
     keyword "hold" (Asks.Text Command.Hold Expected.Tag)
     ∷ keyword "release" (Asks.Text Command.Release Expected.Tag)
     ∷ keyword "lookup" (Asks.Text Command.Lookup Expected.Tag)
+    ∷ keyword "forecast" (Asks.Text Command.Forecast Expected.Tag)
     ∷ keyword "save" (Asks.Text Command.Save Expected.File)
     ∷ keyword "load" (Asks.Text Command.Load Expected.File)
     ∷ keyword "pack" (Asks.Text Command.Pack Expected.File)
@@ -88,6 +89,7 @@ keywords =
     ∷ keyword "view" Asks.View
     ∷ keyword "settings" Asks.Settings
     ∷ keyword "clear" (Asks.Nothing Command.Clear)
+    ∷ keyword "length" (Asks.Nothing Command.Length)
     ∷ keyword "stats" (Asks.Nothing Command.Stats)
     ∷ keyword "help" (Asks.Nothing Command.Help)
     ∷ []

@@ -37,6 +37,8 @@ pub enum Command {
     Hold,
     Release,
     Lookup,
+    // what a hold would answer
+    Forecast,
     View(u32),
     Clear,
     Save,
@@ -44,6 +46,8 @@ pub enum Command {
     Pack,
     Unpack,
     Convert,
+    // the bytes that the hold file would have
+    Length,
     Stats,
     Help,
     // there is no such command

@@ -226,15 +226,16 @@ fn settings_line(rest: &[u8]) -> Command
 }
 
 // The keywords: their names, and what each asks for, in the same order.
-const NAMES: [u8; 80] =
-    *b"hold release lookup save load pack unpack convert view settings clear stats help";
+const NAMES: [u8; 96] =
+    *b"hold release lookup forecast save load pack unpack convert view settings clear length stats help";
 
-const KEYWORDS: usize = 13;
+const KEYWORDS: usize = 15;
 
 const ASKS: [Asks; KEYWORDS] = [
     Asks::Text(Command::Hold, Expected::Tag),
     Asks::Text(Command::Release, Expected::Tag),
     Asks::Text(Command::Lookup, Expected::Tag),
+    Asks::Text(Command::Forecast, Expected::Tag),
     Asks::Text(Command::Save, Expected::File),
     Asks::Text(Command::Load, Expected::File),
     Asks::Text(Command::Pack, Expected::File),
@@ -243,6 +244,7 @@ const ASKS: [Asks; KEYWORDS] = [
     Asks::View,
     Asks::Settings,
     Asks::Nothing(Command::Clear),
+    Asks::Nothing(Command::Length),
     Asks::Nothing(Command::Stats),
     Asks::Nothing(Command::Help),
 ];

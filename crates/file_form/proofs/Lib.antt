@@ -4,6 +4,8 @@ pub mod Parses
 pub mod Maps
 pub mod AnswerOrder
 pub mod RefusedWrite
+pub mod Foretold
+pub mod Sizes
 pub mod Fields
 pub mod Headers
 pub mod Buckets

@@ -10,4 +10,5 @@ pub mod RoundTrip
 pub mod Unsalted
 pub mod AnswerOrder
 pub mod RefusedWrite
+pub mod Foretold
 pub mod Laws

@@ -1,11 +1,12 @@
--- The hold file of settings and cells, and the writer.
+-- The hold file of settings and cells, the writer, and the length that is told beforehand.
 -- Assumes nothing.
 use mathlib.Core.Bool.{Bool, not}
 use mathlib.Core.List.{List, [], _∷_, _++_}
 use Prim.Native.Nat.{ℕ}
 use lib.Dec.{eqb}
+use Rattle.refusals.specs.Outcomes.{Answer}
 use Rattle.index.specs.declared.Settings.{Settings}
-use Rattle.calls.specs.WrittenForms.{Written, written}
+use Rattle.calls.specs.WrittenForms.{Written, written, lengthOf}
 use Rattle.file_form.specs.Bytes.{pair, nibble, where?}
 use Rattle.file_form.specs.Fields.{fieldBytes}
 use Rattle.file_form.specs.Header.{sizes, valuesOf, mapOf}
@@ -43,3 +44,7 @@ fileOf s c = header s ++ body c
 
 unfoldable pub writeFile : Settings → List ℕ → List ℕ → Written
 writeFile s c out = written s c (fileOf s c) out
+
+-- the number of bytes that the file will have
+unfoldable pub fileLength : Settings → List ℕ → Answer ℕ
+fileLength s c = lengthOf s c (fileOf s c)

@@ -14,6 +14,7 @@ use super::tell::print_settings;
 use super::tell::print_with;
 use super::tell::refused;
 use file_header::ReadAnswer;
+use file_length::LengthAnswer;
 use holdfile::WriteAnswer;
 use index::Settings;
 use packed::PackAnswer;
@@ -146,6 +147,27 @@ pub(crate) fn lookup(log: &mut Log, state: State, text: &[u8], cells: &[u16]) {
     lookup_tag(log, state.settings, &cells[..c], &space[..n]);
 }
 
+fn forecast_tag(log: &mut Log, s: Settings, cells: &[u16], words: &mut [u32], tag: &[u8]) {
+    match forecast::forecast(s, cells, words, tag) {
+        HoldAnswer::Refused(k) => refused(log, k),
+        HoldAnswer::Accepted(moves) => {
+            print(log, b"would be ");
+            accepted(log, moves);
+        }
+    }
+}
+
+// What a hold of the tag would answer, by the same words.
+pub(crate) fn forecast(log: &mut Log, state: State, text: &[u8], cells: &[u16], words: &mut [u32]) {
+    let mut space = [0u8; 64];
+    let n = typed(log, state.line, text, &mut space);
+    if n == 0 {
+        return;
+    }
+    let c = lent(state.settings, cells);
+    forecast_tag(log, state.settings, &cells[..c], words, &space[..n]);
+}
+
 // ── the list as a whole ──
 
 fn view_lent(log: &mut Log, s: Settings, cells: &[u16], bucket: u32) {
@@ -204,6 +226,15 @@ pub(crate) fn stats(log: &mut Log, state: State, cells: &[u16]) {
 }
 
 // ── files ──
+
+// The bytes that save would write.
+pub(crate) fn length(log: &mut Log, state: State, cells: &[u16]) {
+    let c = lent(state.settings, cells);
+    match file_length::file_length(state.settings, &cells[..c]) {
+        LengthAnswer::Refused(k) => refused(log, k),
+        LengthAnswer::Bytes(count) => print_with(log, b"", count as u64, b" bytes\n"),
+    }
+}
 
 // What became of a file that was to be written.
 fn stored(log: &mut Log, line: u64, what: &[u8], name: &[u8], count: usize, end: Stored) {

@@ -52,7 +52,7 @@ fn echo(log: &mut Log, line: &[u8]) {
 fn help(log: &mut Log) {
     print(
         log,
-        b"settings RULE WIDTH BUCKETS MASK [SALT], settings, hold TAG, release TAG, lookup TAG, view BUCKET, clear, save FILE, load FILE, pack FILE, unpack FILE, convert FROM TO, stats, help; a tag is text, or hexadecimal digits after 0x; # starts a comment; the end of the input ends it\n",
+        b"settings RULE WIDTH BUCKETS MASK [SALT], settings, hold TAG, release TAG, lookup TAG, forecast TAG, view BUCKET, clear, save FILE, load FILE, pack FILE, unpack FILE, convert FROM TO, length, stats, help; a tag is text, or hexadecimal digits after 0x; # starts a comment; the end of the input ends it\n",
     );
 }
 
@@ -94,6 +94,7 @@ fn answer_other(log: &mut Log, state: State, line: &[u8], cells: &[u16], space: 
             space,
         ),
         Command::Present => tell::print_settings(log, state.settings),
+        Command::Length => list::length(log, state, cells),
         Command::Stats => list::stats(log, state, cells),
         Command::Help => help(log),
         _ => answer_wrong(log, state.line, command),
@@ -112,6 +113,10 @@ fn answer(
         Command::Hold => list::hold(log, state, commands::argument(line), cells, words),
         Command::Release => {
             list::release(log, state, commands::argument(line), cells);
+            state
+        }
+        Command::Forecast => {
+            list::forecast(log, state, commands::argument(line), cells, words);
             state
         }
         Command::Clear => list::set(log, state, state.settings, cells),
@@ -551,7 +556,7 @@ fn main() {
         return;
     }
     if o.version {
-        io::write_all(STDOUT_FILENO, b"gedrunelj 0.6.0\n");
+        io::write_all(STDOUT_FILENO, b"gedrunelj 0.7.0\n");
         report(o.report, 0);
         return;
     }

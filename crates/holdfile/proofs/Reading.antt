@@ -5,8 +5,7 @@ use mathlib.Core.Logic.{_≢_}
 use mathlib.Core.Bool.{Bool, true, false, not, cond, _||_, _&&_}
 use mathlib.Core.Option.{Option, none}
 use mathlib.Core.List.{List, [], _∷_, _++_, append-assoc, append-nil}
-use Prim.Native.Nat.{ℕ, zero, suc, _+_, _*_, _-_, _%_, _^_, _≤_, _<_}
-use native.Mathlib.Nat.{one-mul}
+use Prim.Native.Nat.{ℕ, zero, suc, _+_, _*_, _-_, _^_, _≤_, _<_}
 use native.Mathlib.Numerals.{add-one}
 use native.Mathlib.Omega.{arith}
 use native.Mathlib.Decide.{decLe}
@@ -14,7 +13,6 @@ use borrow.Author.Tests.{not-true, le-leb, lt-leb}
 use lib.Dec.{eqb, leb}
 use borrow.Rule.Slice.PartMut.{midOf, postOf, putMid, mid-len, same-len-mid}
 use lib.ListN.{length, take, drop, getD, set, length-append, drop-of-length-le}
-use lib.Pow.{shl-exact}
 use lib.Seq.{drop-cons, take-at, take-all, length-take-le}
 use Rattle.lemmas.proofs.Bools.{or-false-left, or-false-right}
 use Rattle.holdfile.proofs.Writing.{cond-le}
@@ -53,9 +51,6 @@ module _ (l : List ℕ) (at : ℕ) where
       go (x ∷ y ∷ r) k = absurd (omega arith)
 
 -- ── a cell's test ──
-pub shifted : (w : ℕ) → w ≤ 16 → 1 * 2 ^ w % 2 ^ 32 ≡ 2 ^ w
-shifted w h = shl-exact {a = 1} 1 w 32 (omega arith) (omega arith) ∙ one-mul (2 ^ w)
-
 abbrev pub unfitOf : ℕ → Bool → ℕ → Bool
 unfitOf w t v = t && (eqb v 0 || leb (2 ^ w) v)
 

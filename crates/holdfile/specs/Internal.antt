@@ -3,14 +3,12 @@
 use mathlib.Core.Path.{_≡_}
 use mathlib.Core.Bool.{Bool, true, false, cond}
 use mathlib.Core.List.{List, []}
-use Prim.Native.Nat.{ℕ, _+_, _*_, _^_}
-use lib.ListN.{length, drop, getD}
-use Rattle.calls.specs.WrittenForms.{anyFrom}
-use Rattle.file_form.specs.Writer.{bucketBytes, body}
+use Prim.Native.Nat.{ℕ, _+_, _*_}
+use lib.ListN.{drop, getD}
+use Rattle.file_form.specs.Writer.{bucketBytes}
 use Rattle.file_form.specs.Parsed.{Parsed, stop, next}
 use Rattle.file_form.specs.Bytes.{bit0, bit1, bit2, bit3}
 use Rattle.file_form.specs.Reader.{readBucket}
-use Rattle.holdfile.specs.declared.Size.{Size}
 use Rattle.holdfile.specs.declared.Field.{Field}
 use Rattle.holdfile.specs.declared.Pass.{Pass}
 
@@ -22,11 +20,6 @@ bucketBytesAt c i = bucketBytes (getD c i 0) (getD c (i + 1) 0) (getD c (i + 2) 
 -- what may be changed behind a cell or a bucket, where more is still to be stored there
 abbrev pub slack : Bool → ℕ
 slack ahead = cond ahead 2 0
-
--- the first pass over the cells: the bytes of the buckets, where no cell is too wide
-abbrev pub Sized : ℕ → List ℕ → Size → Type 0
-Sized w c (Size.Bytes n) = (anyFrom (2 ^ w) c ≡ false) × (n ≡ length (body c))
-Sized w c Size.TooWide = anyFrom (2 ^ w) c ≡ true
 
 -- ── reading: a place in the bytes l stands for the bytes from there on ──
 abbrev pub fieldIs : List ℕ → Field → Parsed ℕ

@@ -2,7 +2,7 @@
 ghost use mathlib.Core.Path.{_≡_};
 ghost use mathlib.Core.Bool.{cond, _&&_, _||_};
 ghost use mathlib.Core.List.{[], _∷_};
-ghost use Prim.Native.Nat.{_+_, _*_, _%_, _^_, _<_, _≤_, max};
+ghost use Prim.Native.Nat.{_+_, _*_, _%_, _^_, _<_, _≤_};
 ghost use lib.Dec.{eqb, leb};
 ghost use lib.ListN.{length, drop, getD};
 ghost use lib.Seq.{sets};
@@ -14,21 +14,16 @@ ghost use Rattle.file_form.specs.Writer.{cellBytes, body, writeFile};
 ghost use Rattle.file_form.specs.Reader.{takeByte, takePair, readCell, readBucket, readBuckets, afterBuckets, afterHeader, into, readFile};
 ghost use Rattle.file_header.specs.Answers.{readIs};
 ghost use Rattle.holdfile.specs.Answers.{writeIs, Examined};
-ghost use Rattle.holdfile.specs.Internal.{fieldIs, slack, passIs, endOf, pairFrom, GivesCells, cellsRead, bucketSize, GoodAt, Sized, bucketBytesAt};
+ghost use Rattle.holdfile.specs.Internal.{fieldIs, slack, passIs, endOf, pairFrom, GivesCells, cellsRead, bucketSize, GoodAt, bucketBytesAt};
 use file_header::HeaderRead;
 use file_header::ReadAnswer;
+use file_length::LengthAnswer;
 use index::Settings;
 
 // The byte count, or the number of the refusal.
 pub enum WriteAnswer {
     Written(usize),
     Refused(u32),
-}
-
-// The byte count of the buckets.
-enum Size {
-    Bytes(usize),
-    TooWide,
 }
 
 // A number of one or two bytes, and the place after it.
@@ -69,52 +64,6 @@ fn part_size(stands: bool, n: usize) -> usize
     ensures { λ r. ⌜ (r ≡ cond stands n 0) × (r ≤ n) ⌝ }
 {
     if stands { n } else { 0 }
-}
-
-// The larger of two cells.
-fn larger(a: u16, b: u16) -> u16
-    ensures { λ r. ⌜ r ≡ max a b ⌝ }
-{
-    if a < b { b } else { a }
-}
-
-// The end of a block of cells whose number fits 16 bits.
-fn block_end(from: usize, all: usize) -> usize
-    requires { ⌜ from < all ⌝ }
-    ensures { λ r. ⌜ (from < r) × (r ≤ all) × (r ≤ from + 32768) ⌝ }
-{
-    if all - from < 32768 {
-        all
-    } else {
-        from + 32768
-    }
-}
-
-// The first pass over the cells: are they below 2^w, and how many bytes do the buckets take? The largest is compared once, at the
-// end: a loop that may stop at each cell is far slower. Cells are counted in 16 bits, of which a register has eight.
-fn body_size(table: &[u16], width: u32, buckets: usize) -> Size
-    requires { ⌜ (width ≤ 16) × (length (now table) ≡ 4 * buckets) × (buckets ≤ 65536) ⌝ }
-    ensures { λ r. ⌜ Sized width (now (table .entry)) r ⌝ }
-{
-    let mut top = 0;
-    let mut filled = 0;
-    let mut i = 0;
-    while i < table.len() {
-        let end = block_end(i, table.len());
-        let mut few = 0u16;
-        while i < end {
-            let v = table[i];
-            top = larger(top, v);
-            few += (v != 0) as u16;
-            i += 1;
-        }
-        filled += few as usize;
-    }
-    let limit = 1u32 << width;
-    if wide(top) >= limit {
-        return Size::TooWide;
-    }
-    Size::Bytes(buckets + 2 * filled)
 }
 
 // The place after the byte.
@@ -178,26 +127,21 @@ fn put_body(out: &mut [u8], from: usize, table: &[u16])
     }
 }
 
-// The table as a file. Nothing is written before every check has passed.
+// The table as a file. Nothing is written before every check has passed: those of its length, and then the output's.
 pub fn write(s: Settings, table: &[u16], out: &mut [u8]) -> WriteAnswer
     ensures { λ r. ⌜ outcome (writeIs r) (now (out .exit)) ≡ writeFile s (now (table .entry)) (now (out .entry)) ⌝ }
 {
-    let n = table::table_refusal(s, table);
-    if n != 0 {
-        return WriteAnswer::Refused(n);
+    match file_length::file_length(s, table) {
+        LengthAnswer::Refused(n) => WriteAnswer::Refused(n),
+        LengthAnswer::Bytes(needed) => {
+            if out.len() < needed {
+                return WriteAnswer::Refused(16);
+            }
+            let at = file_header::put_header(s, out);
+            put_body(out, at, table);
+            WriteAnswer::Written(needed)
+        }
     }
-    let width = s.width;
-    let buckets = s.buckets as usize;
-    let Size::Bytes(cells) = body_size(table, width, buckets) else {
-        return WriteAnswer::Refused(17);
-    };
-    let needed = file_header::header_size(s) + cells;
-    if out.len() < needed {
-        return WriteAnswer::Refused(16);
-    }
-    let at = file_header::put_header(s, out);
-    put_body(out, at, table);
-    WriteAnswer::Written(needed)
 }
 
 // ── the reader ──

@@ -9,7 +9,8 @@ ghost use lib.ListN.{length};
 ghost use Rattle.refusals.specs.Checks.{firstMet};
 ghost use Rattle.index.specs.Answers.{entryOf, offsetAnswer, candidatesAnswer};
 ghost use Rattle.calls.specs.Calls.{clearTable, lookup as lookupOf, release as releaseOf, hold as holdOf, holdChecks};
-ghost use Rattle.file_form.specs.Writer.{writeFile};
+ghost use Rattle.forecast.specs.Forecasts.{forecast as forecastOf};
+ghost use Rattle.file_form.specs.Writer.{writeFile, fileLength};
 ghost use Rattle.file_form.specs.Reader.{readFile, headerAnswer};
 ghost use Rattle.file_convert.specs.Converter.{convertFile};
 ghost use Rattle.packed_form.specs.Writer.{writePacked};
@@ -17,6 +18,7 @@ ghost use Rattle.packed_form.specs.Reader.{readPacked};
 ghost use Rattle.holdlist.specs.Numbers.{settingsAt, numbersOf, minus, signed, itself, saidNumber};
 ghost use Rattle.holdlist.specs.Calls.{settingsAnswer, viewAnswer, printOf, homeOf, candidatesOut, noNumber, settingsOut};
 use file_header::ReadAnswer;
+use file_length::LengthAnswer;
 use holdfile::WriteAnswer;
 use index::OffsetAnswer;
 use index::Settings;
@@ -218,6 +220,25 @@ pub extern "C" fn holdlist_hold(
     }
 }
 
+// What holdlist_hold would answer now. No cell is written.
+#[no_mangle]
+pub extern "C" fn holdlist_forecast(
+    settings: &Lent,
+    table: &[u16],
+    scratch: &mut [u32],
+    tag: &[u8],
+) -> i64
+    ensures { λ r. ⌜ r ≡ signed saidNumber (forecastOf (settingsAt (now (settings .entry))) (now (table .entry)) (length (now (scratch .entry))) (now (tag .entry)) .answer) ⌝ }
+    ensures { λ r. ⌜ now (table .exit) ≡ forecastOf (settingsAt (now (settings .entry))) (now (table .entry)) (length (now (scratch .entry))) (now (tag .entry)) .leaves ⌝ }
+    ensures { λ r. ⌜ ((n : ℕ) → firstMet (holdChecks (settingsAt (now (settings .entry))) (now (table .entry)) (length (now (scratch .entry))) (now (tag .entry))) ≡ some n → now (scratch .exit) ≡ now (scratch .entry)) ⌝ }
+{
+    let s = lent_settings(settings);
+    match forecast::forecast(s, table, scratch, tag) {
+        HoldAnswer::Accepted(expected) => given(expected),
+        HoldAnswer::Refused(n) => refused(n),
+    }
+}
+
 // 0 where the bucket can be seen.
 #[no_mangle]
 pub extern "C" fn holdlist_view_check(settings: &Lent, table: &[u16], bucket: u32) -> i64
@@ -226,6 +247,18 @@ pub extern "C" fn holdlist_view_check(settings: &Lent, table: &[u16], bucket: u3
     let s = lent_settings(settings);
     let seen = bucket_view::view_check(s, table, bucket);
     refused(seen)
+}
+
+// The number of bytes that the hold file of the table will have.
+#[no_mangle]
+pub extern "C" fn holdlist_file_length(settings: &Lent, table: &[u16]) -> i64
+    ensures { λ r. ⌜ r ≡ signed itself (fileLength (settingsAt (now (settings .entry))) (now (table .entry))) ⌝ }
+{
+    let s = lent_settings(settings);
+    match file_length::file_length(s, table) {
+        LengthAnswer::Bytes(n) => given_count(n),
+        LengthAnswer::Refused(n) => refused(n),
+    }
 }
 
 // The hold file of the table, to out, and how many bytes it takes. Later bytes of out stay as they are.

@@ -4,14 +4,15 @@ use mathlib.Core.Path.{_≡_, refl, sym, ap, ap₂, _∙_}
 use mathlib.Core.Logic.{_≢_}
 use mathlib.Core.List.{List, [], _∷_}
 use Prim.Native.Nat.{ℕ, _+_, _*_, _-_, _/_, _%_, _^_, _≤_, _<_}
-use native.Mathlib.Nat.{div-add-mod', mod-lt, zero-add, add-mod, add-mod-mod, one-mul}
+use native.Mathlib.Nat.{div-add-mod', mod-lt, zero-add, add-mod, add-mod-mod}
 use native.Mathlib.Numerals.{add-one}
 use native.Mathlib.Omega.{arith}
 use lib.Bits.{bitAnd, bitXor, xor-block, xor-zero-r, and-mask}
 use lib.ListN.{length, getD, drop, drop-of-length-le}
 use lib.Seq.{drop-cons}
-use lib.Pow.{pow-pos, pow-mono, shl-exact}
+use lib.Pow.{pow-pos, pow-mono}
 use Rattle.lemmas.proofs.Numbers.{mod-times}
+use Rattle.lemmas.proofs.Powers.{one-shifted}
 use Rattle.index.specs.Settings.{modulus}
 use Rattle.index.specs.Hash.{fnvStart, fnvPrime, fnvStep, fnvFrom, fnv1a, tagHash, fingerprintOf, homeOf, fingerprint, home}
 use Rattle.index.specs.Candidates.{offset}
@@ -78,8 +79,8 @@ module _ {s : Settings} (G : Good s) (h : ℕ) where
 
 -- ── the fingerprint ──
 module _ {s : Settings} (G : Good s) where
-  pub one-shifted : 1 * 2 ^ s .width % 2 ^ 32 ≡ 2 ^ s .width
-  one-shifted = shl-exact {a = 1} 1 (s .width) 32 (omega arith) (omega (arith, G .width-high)) ∙ one-mul (2 ^ s .width)
+  pub limit-shifted : 1 * 2 ^ s .width % 2 ^ 32 ≡ 2 ^ s .width
+  limit-shifted = one-shifted (s .width) 32 (omega (arith, G .width-high))
 
   pub print-small : (h : ℕ) → 1 + h % 2 ^ 32 % (2 ^ s .width - 1) < 2 ^ 16
   print-small h = omega (arith, mod-lt (h % 2 ^ 32) (some-prints G), pow-mono (G .width-high))

@@ -1,11 +1,12 @@
--- A number is a power of two exactly if it has no bit in common with the number below it.
+-- Powers of two: a number is one exactly if it has no bit in common with the number below it, and 1 shifted is one.
 -- Assumes nothing.
 use mathlib.Core.Path.{_≡_, refl, ap, ap₂, _∙_}
 use mathlib.Core.Logic.{_⊎_, inl, inr}
 use Prim.Native.Nat.{ℕ, zero, suc, _+_, _*_, _-_, _/_, _%_, _^_, _<_, min}
-use native.Mathlib.Nat.{min-zero, zero-min}
+use native.Mathlib.Nat.{min-zero, zero-min, one-mul}
 use native.Mathlib.Omega.{arith}
 use lib.Arith.{bin-ind}
+use lib.Pow.{shl-exact}
 use lib.Bits.{bitAnd, and-step, and-self}
 
 even-or-odd : (m : ℕ) → (m % 2 ≡ 0) ⊎ (m % 2 ≡ 1)
@@ -46,3 +47,7 @@ and-of-power (suc k) =
     let half : 2 ^ suc k / 2 ≡ 2 ^ k = omega arith in
     and-below-even (2 ^ suc k) (omega (arith, lib.Pow.pow-pos k)) (omega arith)
     ∙ rw half (ap (λ (x : ℕ). x * 2) (and-of-power k))
+
+-- 1 shifted within n bits
+pub one-shifted : (k n : ℕ) → k < n → 1 * 2 ^ k % 2 ^ n ≡ 2 ^ k
+one-shifted k n h = shl-exact {a = 1} 1 k n (omega arith) (omega arith) ∙ one-mul (2 ^ k)

@@ -3,12 +3,13 @@
 use mathlib.Core.Path.{_≡_, refl, sym, ap, ap₂, _∙_, subst}
 use mathlib.Core.List.{List, [], _∷_}
 use Prim.Native.Nat.{ℕ, _+_, _*_, _-_, _/_, _%_, _^_, _≤_, _<_}
-use native.Mathlib.Nat.{mod-lt, mod-eq-of-lt, div-one, mul-comm, mul-assoc, mul-add, add-mul, mul-right-comm, mul-le-mul-right, lt-of-lt-of-le, one-mul, div-add-mod', div-eq-of-eq-mul-right}
+use native.Mathlib.Nat.{mod-lt, mod-eq-of-lt, div-one, mul-comm, mul-assoc, mul-add, add-mul, mul-right-comm, mul-le-mul-right, lt-of-lt-of-le, div-add-mod', div-eq-of-eq-mul-right}
 use native.Mathlib.Omega.{arith}
 use lib.Bits.{bitAnd, and-mask, and-block, and-high, and-le-l}
 use lib.ListN.{getD}
 use lib.Pow.{pow-pos, pow-mono, pow-add, shl-exact, shr-shr, field, mod-mod-pow}
 use Rattle.lemmas.proofs.Digits.{digit-first, digit-rest}
+use Rattle.lemmas.proofs.Powers.{one-shifted}
 use Rattle.rows.specs.Rows.{rows, quadrupleAt, Ascends, rankOf}
 use Rattle.rows.proofs.Rank.{rank-is-row}
 use Rattle.rows.proofs.Rows.{rows-right}
@@ -18,14 +19,11 @@ use Rattle.packed_form.proofs.Laws.{packed-laws}
 use Rattle.packed.specs.Internal.{Width}
 
 -- ── shifts and masks ──
-one-shifted : (k : ℕ) → k < 64 → 1 * 2 ^ k % 2 ^ 64 ≡ 2 ^ k
-one-shifted k h = shl-exact {a = 1} 1 k 64 (omega arith) (omega arith) ∙ one-mul (2 ^ k)
-
 pub masked : (x k : ℕ) → k < 64 → bitAnd x (1 * 2 ^ k % 2 ^ 64 - 1) ≡ x % 2 ^ k
-masked x k h = ap (λ (z : ℕ). bitAnd x (z - 1)) (one-shifted k h) ∙ and-mask x k
+masked x k h = ap (λ (z : ℕ). bitAnd x (z - 1)) (one-shifted k 64 h) ∙ and-mask x k
 
 pub shifted-one : (k : ℕ) → k < 64 → 1 ≤ 1 * 2 ^ k % 2 ^ 64
-shifted-one k h = subst (λ (z : ℕ). 1 ≤ z) (sym (one-shifted k h)) (pow-pos k)
+shifted-one k h = subst (λ (z : ℕ). 1 ≤ z) (sym (one-shifted k 64 h)) (pow-pos k)
 
 few-bits : (n : ℕ) → n ≤ 12 → 2 ^ n ≤ 4096
 few-bits n h = pow-mono {j = 12} h
@@ -110,13 +108,13 @@ module _ (n x : ℕ) (few : n ≤ 12) where
   lower-is : lower ≡ x1 % size * 4294967296 + x0 % size
   lower-is =
       let m : ℕ = size - 1 in
-      let e : (1 * 2 ^ n % 2 ^ 64 - 1) * 4294967297 ≡ m * 4294967296 + m = omega (arith, one-shifted n (omega arith)) in
+      let e : (1 * 2 ^ n % 2 ^ 64 - 1) * 4294967297 ≡ m * 4294967296 + m = omega (arith, one-shifted n 64 (omega arith)) in
       ap₂ bitAnd pairs-are e
       ∙ and-block 32 x1 m x0 m (omega (arith, small x)) (omega (arith, few-bits n few))
       ∙ ap₂ (λ (a b : ℕ). a * 4294967296 + b) (and-mask x1 n) (and-mask x0 n)
 
   pub one-fits : (1 * 2 ^ n % 2 ^ 64 - 1) * 4294967297 < 2 ^ 64
-  one-fits = omega (arith, one-shifted n (omega arith), few-bits n few)
+  one-fits = omega (arith, one-shifted n 64 (omega arith), few-bits n few)
 
   pub second-fits64 : bitAnd (x / 2 ^ (n * 2)) (1 * 2 ^ (n * 2) % 2 ^ 64 - 1) * 4294967296 < 2 ^ 64
   second-fits64 = omega (arith, masked (x / 2 ^ (n * 2)) (n * 2) (omega arith), small (x / 2 ^ (n * 2)))

@@ -6,3 +6,4 @@ pub mod Pairs
 pub mod Guards
 pub mod Placing
 pub mod Counting
+pub mod Laws

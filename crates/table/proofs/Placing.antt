@@ -1,13 +1,13 @@
--- A hold: what its checks refuse, what its search finds, and what it then says.
+-- A hold, and the search for a tag's place: what their checks refuse, where the search ends, and what a hold then comes to.
 -- Assumes nothing.
 use mathlib.Core.Path.{_≡_, refl, sym, ap, ap₂, _∙_, subst}
 use mathlib.Core.Logic.{_≢_}
 use mathlib.Core.Bool.{Bool, true, false, cond}
 use mathlib.Core.Option.{Option, none, some}
 use mathlib.Core.List.{List, [], _∷_, _++_}
-use Prim.Native.Nat.{ℕ, _+_, _*_, _≤_, _<_}
+use Prim.Native.Nat.{ℕ, _+_, _*_, _/_, _≤_, _<_}
 use native.Mathlib.Omega.{arith}
-use lib.ListN.{length, getD, take, set, length-append}
+use lib.ListN.{length, getD, take, length-append}
 use lib.Seq.{getD-append-seam}
 use Rattle.refusals.specs.Checks.{firstMet, numberOf}
 use Rattle.refusals.specs.Outcomes.{refused, given, outcome, keeping}
@@ -22,36 +22,44 @@ use Rattle.index.specs.declared.CandidateList.{CandidateList}
 use Rattle.index.proofs.Laws.{laws}
 use Rattle.index.proofs.Checks.{check-laws}
 use Rattle.calls.specs.Cells.{lowestEmpty, inFirst}
-use Rattle.calls.specs.Search.{Node, node, marked, Ending, found, exhausted, searchFrom, searchFor, rootsFrom, relocate}
-use Rattle.calls.specs.Calls.{Act, accepted, tableChecks, scratchChecks, Sound, holdChecks, settled, placed, holdIn, hold}
+use Rattle.calls.specs.Search.{Node, node, marked, Ending, searchFrom, searchFor, rootsFrom}
+use Rattle.calls.specs.Calls.{Act, tableChecks, scratchChecks, Sound, holdChecks, settled, placed, holdIn, hold}
+use Rattle.calls.specs.Laws.{Finds}
 use Rattle.calls.proofs.Laws.{scan-laws, table-check-laws, call-laws}
 use Rattle.table.specs.Answers.{holdIs, Holds}
-use Rattle.table.specs.Internal.{queueIn, pathIn, Sparse, Searches}
+use Rattle.table.specs.Scratch.{queueIn, pathIn, Sparse}
+use Rattle.table.specs.Probes.{Ended, freeIn, Probed, Probes}
+use Rattle.table.specs.Laws.{comesTo}
+use Rattle.table.specs.Internal.{Sought}
 use Rattle.table.specs.declared.HoldAnswer.{HoldAnswer}
+use Rattle.table.specs.declared.ProbeAnswer.{ProbeAnswer}
 use Rattle.table.specs.declared.SearchAnswer.{SearchAnswer}
-use Rattle.table.proofs.Guards.{Placing, list-is, found-inside}
+use Rattle.table.proofs.Guards.{Placing, list-is}
 use Rattle.table.proofs.Scratch.{queue-length, path-at}
 
--- ── the checks of a hold ──
+-- ── the checks: of a hold, and of the search alone ──
 module _ (s : Settings) (c w t : List ℕ) where
   abbrev act : Act
   act = holdIn s c (fingerprint s t) (home s t)
 
-  refused-by : {n : ℕ} → firstMet (holdChecks s c (length w) t) ≡ some n → Holds (HoldAnswer.Refused n) s c c w w t
+  pub hold-refused : {n : ℕ} → firstMet (holdChecks s c (length w) t) ≡ some n → Holds (HoldAnswer.Refused n) s c c w w t
   unfolding hold
-  refused-by e = record { does = call-refused c act e; keeps = λ m f. refl }
+  hold-refused e = record { does = call-refused c act e; keeps = λ m f. refl }
 
-  pub hold-by-table : {n : ℕ} → n ≡ numberOf (firstMet (tableChecks s c)) → n ≢ 0 → Holds (HoldAnswer.Refused n) s c c w w t
+  pub probe-refused : {n : ℕ} → firstMet (holdChecks s c (length w) t) ≡ some n → Probes (ProbeAnswer.Refused n) s c w w t
+  probe-refused e = rw e (refl, refl)
+
+  pub by-table : {n : ℕ} → n ≡ numberOf (firstMet (tableChecks s c)) → n ≢ 0 → firstMet (holdChecks s c (length w) t) ≡ some n
   unfolding holdChecks
-  hold-by-table e h = refused-by (all-met (tableChecks s c) (scratchChecks s (length w) ++ tagChecks t) (start _) (number-met (tableChecks s c) e h))
+  by-table e h = all-met (tableChecks s c) (scratchChecks s (length w) ++ tagChecks t) (start _) (number-met (tableChecks s c) e h)
 
   module _ (S : Sound s c) where
     at-scratch : Reached (holdChecks s c (length w) t) (scratchChecks s (length w) ++ tagChecks t)
     unfolding holdChecks
     at-scratch = all-passed (tableChecks s c) (scratchChecks s (length w) ++ tagChecks t) (start _) (table-check-laws s c .passes S)
 
-    pub hold-by-scratch : length w < 2 * s .buckets → Holds (HoldAnswer.Refused 6) s c c w w t
-    hold-by-scratch h = refused-by (all-met (scratchChecks s (length w)) (tagChecks t) at-scratch (table-check-laws s c .scratch-refused (length w) h))
+    pub by-scratch : length w < 2 * s .buckets → firstMet (holdChecks s c (length w) t) ≡ some 6
+    by-scratch h = all-met (scratchChecks s (length w)) (tagChecks t) at-scratch (table-check-laws s c .scratch-refused (length w) h)
 
     module _ (l : 2 * s .buckets ≤ length w) where
       -- the tag decides
@@ -60,63 +68,27 @@ module _ (s : Settings) (c w t : List ℕ) where
           all-passed (scratchChecks s (length w)) (tagChecks t) at-scratch (table-check-laws s c .scratch-passes (length w) l) .decides
           ∙ sym (all-passed (settingsChecks s) (tagChecks t) (start _) (S .settings) .decides)
 
-      pub hold-by-tag : {n : ℕ} → refused n ≡ entryOf s t → Holds (HoldAnswer.Refused n) s c c w w t
-      hold-by-tag {n} e = refused-by (tag-left ∙ check-laws s .entry-refused t n (sym e))
+      pub by-tag : {n : ℕ} → refused n ≡ entryOf s t → firstMet (holdChecks s c (length w) t) ≡ some n
+      by-tag {n} e = tag-left ∙ check-laws s .entry-refused t n (sym e)
 
-      pub hold-placed : (p b : ℕ) → given (record { print = p; home = b }) ≡ entryOf s t
-          → {r : HoldAnswer} {c′ w′ : List ℕ} → outcome (holdIs r) c′ ≡ keeping c (holdIn s c p b) → Holds r s c c′ w w′ t
-      unfolding hold
-      hold-placed p b e f =
-          let g = check-laws s .entry-given t p b (sym e) in
-          let n : firstMet (holdChecks s c (length w) t) ≡ none = tag-left ∙ g .0 in
-          record {
-            does = f ∙ ap₂ (λ (x y : ℕ). keeping c (holdIn s c x y)) (g .1) (g .2) ∙ call-goes-on c act n;
-            keeps = λ k h. absurd (let z : _≡_ {A = ℕ} 0 1 = cc in omega arith);
-          }
+      module _ (p b : ℕ) (e : given (record { print = p; home = b }) ≡ entryOf s t) where
+        none-met : firstMet (holdChecks s c (length w) t) ≡ none
+        none-met = tag-left ∙ check-laws s .entry-given t p b (sym e) .0
 
--- ── an empty cell of a candidate ──
-module _ {s : Settings} {c : List ℕ} {p b : ℕ} {l : CandidateList} (K : Placing s c p b l) {o : Option ℕ} (e : o ≡ inFirst (lowestEmpty c) (take (l .count) (l .buckets))) where
-  pub empty-inside : (i : ℕ) → o ≡ some i → i < length c
-  empty-inside i k = found-inside K 0 _ (scan-laws .empties c (take (l .count) (l .buckets))) i (sym e ∙ k)
+        pub probe-made : (r : ProbeAnswer) (w′ : List ℕ) → Probed s c p b w′ r → Probes r s c w w′ t
+        probe-made r w′ f = let g = check-laws s .entry-given t p b (sym e) in rw (none-met, ← g .1, ← g .2) f
 
-  placed-is : {x : Option ℕ} → o ≡ x → placed c p x (searchFor s c p b) ≡ holdIn s c p b
-  unfolding holdIn
-  placed-is k = ap (λ (x : Option ℕ). placed c p x (searchFor s c p b)) (sym k ∙ e ∙ ap (inFirst (lowestEmpty c)) (list-is K))
+        pub hold-made : {r : HoldAnswer} {c′ w′ : List ℕ} → outcome (holdIs r) c′ ≡ keeping c (holdIn s c p b) → Holds r s c c′ w w′ t
+        unfolding hold
+        hold-made f =
+            let g = check-laws s .entry-given t p b (sym e) in
+            let n = none-met in
+            record {
+              does = f ∙ ap₂ (λ (x y : ℕ). keeping c (holdIn s c x y)) (g .1) (g .2) ∙ call-goes-on c act n;
+              keeps = λ k h. absurd (let z : _≡_ {A = ℕ} 0 1 = cc in omega arith);
+            }
 
-  pub placed-told : {i : ℕ} {c′ : List ℕ} → o ≡ some i → c′ ≡ set c i p → outcome (given (accepted 0)) c′ ≡ keeping c (holdIn s c p b)
-  placed-told k f = ap (outcome (given (accepted 0))) f ∙ ap (keeping c) (placed-is k)
-
--- ── the search's end, in scratch ──
-module _ (m : ℕ) (w : List ℕ) (roots i last : ℕ) where
-  -- entry `last` is the node that was found
-  pub record Reaches (o : Ending) : Type 0 where
-    pub end : Node
-    pub queue : List Node
-    pub is : o ≡ found i end queue
-    pub sparse : Sparse m w (last + 1)
-    pub path : pathIn m w roots last ≡ end .path
-
-  reaches : (o : Ending) → Searches (SearchAnswer.Found i last) m w roots o → Reaches o
-  reaches (exhausted q) S = absurd (let e = S .says in let z : _≡_ {A = ℕ} 0 1 = cc in omega arith)
-  reaches (found j n q) S =
-      let e = S .says in
-      let ej : j ≡ i = cc in
-      let el : last ≡ length q = cc in
-      let k : length (q ++ (n ∷ [])) ≡ last + 1 = length-append q (n ∷ []) ∙ omega arith in
-      record {
-        end = n;
-        queue = q;
-        is = ap (λ (x : ℕ). found x n q) ej;
-        sparse = subst (Sparse m w) k (S .leaves .sparse);
-        path = sym (path-at m w roots (length (q ++ (n ∷ []))) last (omega arith))
-            ∙ ap (λ (r : List Node). getD r last (node 0 []) .path) (S .leaves .queue)
-            ∙ ap (λ (x : ℕ). getD (q ++ (n ∷ [])) x (node 0 []) .path) el ∙ ap (λ (x : Node). x .path) (getD-append-seam q n [] (node 0 []));
-      }
-
-exhausted-is : (m : ℕ) (w : List ℕ) (roots : ℕ) (c : List ℕ) (p : ℕ) (o : Ending) → Searches SearchAnswer.Exhausted m w roots o → outcome (refused 9) c ≡ keeping c (settled c p o)
-exhausted-is m w roots c p (exhausted q) S = refl
-exhausted-is m w roots c p (found j n q) S = absurd (let e = S .says in let z : _≡_ {A = ℕ} 0 1 = cc in omega arith)
-
+-- ── fingerprint p from bucket b, with its candidates in a list ──
 -- a root is queued
 roots-grow : (xs : List ℕ) (q : List Node) → length q ≤ length (rootsFrom xs q)
 roots-grow [] q = omega arith
@@ -127,45 +99,58 @@ roots-grow (x ∷ xs) q = go (marked x q) (roots-grow xs q) (roots-grow xs (q ++
     go true r t = r
     go false r t = omega (arith, length-append q (node x [] ∷ []))
 
--- ── a hold by the search: w is scratch with the roots, w′ at the search's end ──
-module _ {s : Settings} {c : List ℕ} {p b : ℕ} {l : CandidateList} (K : Placing s c p b l) (w : List ℕ) (roots : ℕ)
-    (rooted : queueIn (s .buckets) w roots roots ≡ rootsFrom (take (l .count) (l .buckets)) []) where
-  at-start : queueIn (s .buckets) w roots roots ≡ rootsFrom (candidates s p b) []
-  at-start = rooted ∙ ap (λ (xs : List ℕ). rootsFrom xs []) (list-is K)
+module _ {s : Settings} {c : List ℕ} {p b : ℕ} {l : CandidateList} (K : Placing s c p b l) where
+  pub first-is : {o x : Option ℕ} → o ≡ inFirst (lowestEmpty c) (take (l .count) (l .buckets)) → o ≡ x → freeIn s c p b ≡ x
+  first-is e k = sym (ap (inFirst (lowestEmpty c)) (list-is K)) ∙ sym e ∙ k
 
-  pub some-root : 1 ≤ roots
-  some-root =
-      let f : queueIn (s .buckets) w roots roots ≡ rootsFrom (others s p b) (node b [] ∷ []) = at-start ∙ ap (λ (xs : List ℕ). rootsFrom xs []) (laws s (K .pass .settings) .first p b) in
-      omega (arith, sym (queue-length (s .buckets) w roots roots) ∙ ap length f, roots-grow (others s p b) (node b [] ∷ []))
+  -- w is scratch with the roots, w′ at the search's end
+  module _ (w : List ℕ) (roots : ℕ) (rooted : queueIn (s .buckets) w roots roots ≡ rootsFrom (take (l .count) (l .buckets)) []) where
+    at-start : queueIn (s .buckets) w roots roots ≡ rootsFrom (candidates s p b) []
+    at-start = rooted ∙ ap (λ (xs : List ℕ). rootsFrom xs []) (list-is K)
 
-pub record Searching (s : Settings) (c : List ℕ) (p b : ℕ) (l : CandidateList) (w : List ℕ) (roots : ℕ) (r : SearchAnswer) (w′ : List ℕ) : Type 0 where
-  pub placing : Placing s c p b l
-  pub rooted : queueIn (s .buckets) w roots roots ≡ rootsFrom (take (l .count) (l .buckets)) []
-  pub full : none ≡ inFirst (lowestEmpty c) (take (l .count) (l .buckets))
-  pub ends : Searches r (s .buckets) w′ roots (searchFrom s c (s .buckets) 0 (queueIn (s .buckets) w roots roots))
+    pub some-root : 1 ≤ roots
+    some-root =
+        let f : queueIn (s .buckets) w roots roots ≡ rootsFrom (others s p b) (node b [] ∷ []) = at-start ∙ ap (λ (xs : List ℕ). rootsFrom xs []) (laws s (K .pass .settings) .first p b) in
+        omega (arith, sym (queue-length (s .buckets) w roots roots) ∙ ap length f, roots-grow (others s p b) (node b [] ∷ []))
 
-module _ {s : Settings} {c : List ℕ} {p b : ℕ} {l : CandidateList} {w : List ℕ} {roots : ℕ} {r : SearchAnswer} {w′ : List ℕ} (K : Searching s c p b l w roots r w′) where
-  searched : {x : SearchAnswer} → r ≡ x → Searches x (s .buckets) w′ roots (searchFor s c p b)
-  unfolding searchFor
-  searched f = rw (← f, ← at-start (K .placing) w roots (K .rooted)) (K .ends)
+    pub sought-is : (w′ : List ℕ) {r x : SearchAnswer} → r ≡ x → Sought (searchFrom s c (s .buckets) 0 (queueIn (s .buckets) w roots roots)) (s .buckets) w′ roots r
+        → Sought (searchFor s c p b) (s .buckets) w′ roots x
+    unfolding searchFor
+    sought-is w′ e S = rw (← e, ← at-start) S
 
-  pub exhausted-told : r ≡ SearchAnswer.Exhausted → outcome (refused 9) c ≡ keeping c (holdIn s c p b)
-  exhausted-told f = exhausted-is (s .buckets) w′ roots c p (searchFor s c p b) (searched f) ∙ ap (keeping c) (placed-is (K .placing) (K .full) refl)
+-- ── what placing it comes to ──
+module _ (s : Settings) (c : List ℕ) (p b : ℕ) (S : Sound s c) (below : b < s .buckets) where
+  placed-is : {o : Option ℕ} → freeIn s c p b ≡ o → keeping c (holdIn s c p b) ≡ keeping c (placed c p o (searchFor s c p b))
+  unfolding holdIn
+  placed-is e = ap (λ (x : Option ℕ). keeping c (placed c p x (searchFor s c p b))) e
 
-  module _ {i last : ℕ} (f : r ≡ SearchAnswer.Found i last) where
-    at-end : Reaches (s .buckets) w′ roots i last (searchFor s c p b)
-    at-end = reaches (s .buckets) w′ roots i last (searchFor s c p b) (searched f)
+  -- a cell that was found in a candidate is in the table
+  pub free-inside : (i : ℕ) → freeIn s c p b ≡ some i → i < length c
+  free-inside i e =
+      let f = subst (Finds c 0 (candidates s p b)) e (scan-laws .empties c (candidates s p b)) in
+      omega (arith, S .size, laws s (S .settings) .below p b (i / 4) below (f .1))
 
-    pub end-sparse : Sparse (s .buckets) w′ (last + 1)
-    end-sparse = at-end .sparse
+  module _ (w : List ℕ) {i roots last : ℕ} (E : Ended (searchFor s c p b) (s .buckets) w i roots last) where
+    -- entry `last` is the node that was found
+    upto : length (E .queue ++ (E .end ∷ [])) ≡ last + 1
+    upto = length-append (E .queue) (E .end ∷ []) ∙ omega (arith, E .at)
 
-    pub end-inside : i < length c
-    end-inside =
-        let P = K .placing in
-        omega (arith, P .pass .size, call-laws s (P .pass .settings) .found-within c p b (P .home-in) i (at-end .end) (at-end .queue) (at-end .is))
+    its-path : pathIn (s .buckets) w roots last ≡ E .end .path
+    its-path =
+        sym (path-at (s .buckets) w roots (length (E .queue ++ (E .end ∷ []))) last (omega (arith, upto)))
+        ∙ ap (λ (q : List Node). getD q last (node 0 []) .path) (E .stands .queue)
+        ∙ ap (λ (x : ℕ). getD (E .queue ++ (E .end ∷ [])) x (node 0 []) .path) (E .at)
+        ∙ ap (λ (x : Node). x .path) (getD-append-seam (E .queue) (E .end) [] (node 0 []))
 
-    pub moved-told : {k : ℕ} {c′ : List ℕ} → c′ ≡ relocate c i (pathIn (s .buckets) w′ roots last) p → k ≡ length (pathIn (s .buckets) w′ roots last)
-        → outcome (given (accepted k)) c′ ≡ keeping c (holdIn s c p b)
-    moved-told g m =
-        ap₂ (λ (x : ℕ) (y : List ℕ). outcome (given (accepted x)) y) (m ∙ ap length (at-end .path)) (g ∙ ap (λ (x : List ℕ). relocate c i x p) (at-end .path))
-        ∙ ap (keeping c) (sym (ap (settled c p) (at-end .is)) ∙ placed-is (K .placing) (K .full) refl)
+    pub ended-within : (i < length c) × Sparse (s .buckets) w (last + 1) × (1 ≤ roots)
+    ended-within = (
+      omega (arith, S .size, call-laws s (S .settings) .found-within c p b below i (E .end) (E .queue) (E .is)),
+      subst (Sparse (s .buckets) w) upto (E .stands .sparse),
+      E .rooted,
+    )
+
+  pub comes : (w : List ℕ) (r : ProbeAnswer) → Probed s c p b w r → keeping c (holdIn s c p b) ≡ comesTo s c w r
+  comes w (ProbeAnswer.Refused k) f = absurd f
+  comes w (ProbeAnswer.Free x i) f = placed-is (f .1) ∙ rw (f .0)
+  comes w (ProbeAnswer.Path x i roots last) f = placed-is (f .1) ∙ ap (λ (o : Ending). keeping c (settled c p o)) (f .2 .is) ∙ rw (f .0, its-path w (f .2))
+  comes w (ProbeAnswer.Exhausted k) f = placed-is (f .0) ∙ ap (λ (o : Ending). keeping c (settled c p o)) (f .1 .is)

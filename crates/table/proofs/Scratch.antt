@@ -15,7 +15,8 @@ use lib.Seq.{getD-set-same, getD-set-other, getD-at}
 use Rattle.calls.specs.Cells.{lowestEmpty}
 use Rattle.calls.specs.Search.{Node, node, marked}
 use Rattle.table.specs.declared.Place.{Place}
-use Rattle.table.specs.Internal.{placeIs, bucketIn, parentIn, placeIn, originIn, nodeIn, queueIn, pathIn, Sparse, reached, Queues, Visits}
+use Rattle.table.specs.Scratch.{bucketIn, parentIn, placeIn, originIn, nodeIn, queueIn, pathIn, Sparse}
+use Rattle.table.specs.Internal.{placeIs, reached, Queues, Visits}
 use Rattle.calls.specs.Laws.{Distinct}
 use Rattle.calls.proofs.Laws.{queue-laws}
 

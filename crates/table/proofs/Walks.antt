@@ -17,9 +17,10 @@ use Rattle.index.specs.Laws.{Laws}
 use Rattle.index.specs.declared.Settings.{Settings}
 use Rattle.calls.specs.Cells.{cell, cellsOf, lowestEmpty}
 use Rattle.calls.specs.Search.{Node, node, marked, Ending, found, exhausted, arrive, walk, through, leadsTo, searchFrom, rootsFrom, relocate}
-use Rattle.table.specs.Internal.{placeIs, bucketIn, parentIn, originIn, nodeIn, queueIn, pathIn, Sparse, Queues, Visits, Stands, Searches}
+use Rattle.table.specs.Scratch.{bucketIn, parentIn, originIn, nodeIn, queueIn, pathIn, Sparse, Stands}
+use Rattle.table.specs.Probes.{Ended, RanOut}
+use Rattle.table.specs.Internal.{placeIs, Queues, Visits}
 use Rattle.table.specs.declared.Visited.{Visited}
-use Rattle.table.specs.declared.SearchAnswer.{SearchAnswer}
 use Rattle.table.proofs.Scans.{next-of, none-left, next-among}
 use Rattle.table.proofs.Scratch.{queue-length, queue-at, roots-any, path-root, path-later}
 
@@ -77,7 +78,7 @@ pub record AtMove (m : ℕ) (w : List ℕ) (roots last p : ℕ) (c₀ : List ℕ
 
 module _ {m : ℕ} {w : List ℕ} {t : ℕ} (sp : Sparse m w t) (roots : ℕ) (o : 1 ≤ roots) where
   -- an entry that is no root came from a lower one
-  lower : (i : ℕ) → roots ≤ i → i < t → parentIn w i < i
+  pub lower : (i : ℕ) → roots ≤ i → i < t → parentIn w i < i
   lower i h l = omega (arith, sp .older i l)
 
   -- the path of a root is empty, and that of another entry one longer than its parent's
@@ -119,14 +120,13 @@ module _ {m : ℕ} {w : List ℕ} {t : ℕ} (sp : Sparse m w t) (roots : ℕ) (o
         (e ∙ (rw path at (a .same)), omega (arith, ap length path, a .counted))
 
 -- ── the search ──
--- what its loops change: scratch, the length of the queue, and the answer
+-- what its loops change: scratch, and the length of the queue
 pub record State : Type 0 where
   pub words : List ℕ
   pub tail : ℕ
-  pub answer : SearchAnswer
 
-abbrev pub state : List ℕ → ℕ → SearchAnswer → State
-state w t a = record { words = w; tail = t; answer = a }
+abbrev pub state : List ℕ → ℕ → State
+state w t = record { words = w; tail = t }
 
 -- one node is looked at: it is not the end, or it is
 module _ (c : List ℕ) (n : Node) (ns q : List Node) (next : List Node → Ending) where
@@ -232,7 +232,7 @@ module _ (s : Settings) (c : List ℕ) (roots : ℕ) where
 
   -- a candidate is looked at, from entry `head`, which is node n
   abbrev visited : State → List ℕ → Visited → State
-  visited q w r = state w (r .tail) (q .answer)
+  visited q w r = state w (r .tail)
 
   module _ (q : State) {x head k : ℕ} {w′ : List ℕ} {r : Visited} (o : 1 ≤ roots) (l : roots ≤ q .tail) (hh : head < q .tail)
       (v : Visits c (s .buckets) x head k (q .words) (q .tail) w′ r) (n : Node) (is : entry q head ≡ n) where
@@ -268,13 +268,13 @@ module _ (s : Settings) (c : List ℕ) (roots : ℕ) where
     stands : Stands (s .buckets) (q .words) roots (queue q)
     stands = record { sparse = rw queue-length sp; queue = ap (queueIn (s .buckets) (q .words) roots) (queue-length (s .buckets) (q .words) roots (q .tail)) }
 
-    says-exhausted : exhausted (queue q) ≡ o → Searches SearchAnswer.Exhausted (s .buckets) (q .words) roots o
-    says-exhausted e = rw (sym e) (record { says = refl; leaves = stands })
+    says-exhausted : exhausted (queue q) ≡ o → RanOut o (s .buckets) (q .words) (q .tail)
+    says-exhausted e = record { queue = queue q; is = sym e; count = sym (queue-length (s .buckets) (q .words) roots (q .tail)); roots = roots; stands = stands }
 
-    says-found : (i : ℕ) (n : Node) (p : List Node) → found i n p ≡ o → queue q ≡ p ++ (n ∷ []) → Searches (SearchAnswer.Found i (q .tail - 1)) (s .buckets) (q .words) roots o
-    says-found i n p e f =
+    says-found : 1 ≤ roots → (i : ℕ) (n : Node) (p : List Node) → found i n p ≡ o → queue q ≡ p ++ (n ∷ []) → Ended o (s .buckets) (q .words) i roots (q .tail - 1)
+    says-found k i n p e f =
         let z : q .tail - 1 ≡ length p = omega (arith, sym (queue-length (s .buckets) (q .words) roots (q .tail)) ∙ ap length f ∙ length-append p (n ∷ [])) in
-        rw (sym e) (record { says = ap (SearchAnswer.Found i) z; leaves = subst (Stands (s .buckets) (q .words) roots) f stands })
+        record { end = n; queue = p; is = sym e; at = z; rooted = k; stands = subst (Stands (s .buckets) (q .words) roots) f stands }
 
   -- ── the loops' invariants: q₀ is as the loop began ──
   pub record AtQueue (q₀ : State) (head₀ : ℕ) (q : State) (head : ℕ) : Type 0 where
@@ -282,7 +282,6 @@ module _ (s : Settings) (c : List ℕ) (roots : ℕ) where
     pub sparse : Sparse (s .buckets) (q .words) (q .tail)
     pub order : head ≤ q .tail
     pub rooted : roots ≤ q .tail
-    pub kept : q .answer ≡ q₀ .answer
     pub same : fromQueue head q ≡ fromQueue head₀ q₀
 
   -- the queue has grown, and entry `head` is as it was
@@ -290,14 +289,13 @@ module _ (s : Settings) (c : List ℕ) (roots : ℕ) where
     pub len : length (q .words) ≡ length (q₀ .words)
     pub sparse : Sparse (s .buckets) (q .words) (q .tail)
     pub order : q₀ .tail ≤ q .tail
-    pub kept : q .answer ≡ q₀ .answer
     pub stays : entry q head ≡ entry q₀ head
 
   pub since-start : {head : ℕ} {q : State} → Sparse (s .buckets) (q .words) (q .tail) → Since head q q
-  since-start sp = record { len = refl; sparse = sp; order = omega arith; kept = refl; stays = refl }
+  since-start sp = record { len = refl; sparse = sp; order = omega arith; stays = refl }
 
   since-then : {head : ℕ} {q₀ q₁ q₂ : State} → Since head q₀ q₁ → Since head q₁ q₂ → Since head q₀ q₂
-  since-then a b = record { len = b .len ∙ a .len; sparse = b .sparse; order = omega (arith, a .order, b .order); kept = b .kept ∙ a .kept; stays = b .stays ∙ a .stays }
+  since-then a b = record { len = b .len ∙ a .len; sparse = b .sparse; order = omega (arith, a .order, b .order); stays = b .stays ∙ a .stays }
 
   pub record AtCell (head : ℕ) (q₀ : State) (k₀ : ℕ) (q : State) (k : ℕ) : Type 0 where
     pub since : Since head q₀ q
@@ -319,7 +317,7 @@ module _ (s : Settings) (c : List ℕ) (roots : ℕ) where
         let ht : head < q .tail = omega (arith, a .since .order) in
         let lt : roots ≤ q .tail = omega (arith, a .since .order) in
         record {
-          since = since-then (a .since) (record { len = g; sparse = v .sparse; order = v .grows; kept = refl; stays = same-entry q o lt ht v _ refl });
+          since = since-then (a .since) (record { len = g; sparse = v .sparse; order = v .grows; stays = same-entry q o lt ht v _ refl });
           later = omega (arith, a .later);
           same = goes-on q o lt ht v _ (a .since .stays) xs j e f ∙ a .same;
         }
@@ -342,24 +340,23 @@ module _ (s : Settings) (c : List ℕ) (roots : ℕ) where
       sparse = a .since .sparse;
       order = omega (arith, a .since .order);
       rooted = omega (arith, a .since .order, t .rooted);
-      kept = a .since .kept ∙ t .kept;
       same = turn-ends (entry q head) head k q′ d ∙ a .same ∙ turn head q h (t .sparse .count) ∙ t .same;
     }
 
     -- every entry is done
-    pub queue-ends : {q₀ q : State} → AtQueue q₀ 0 q head → q .tail ≤ head → q₀ .answer ≡ SearchAnswer.Exhausted
-        → Searches (q .answer) (s .buckets) (q .words) roots (searchFrom s c (s .buckets) 0 (queue q₀))
-    queue-ends {q₀} {q} t h e = rw (t .kept, e) (says-exhausted q _ (t .sparse) (sym (done head q h) ∙ t .same ∙ starts q₀))
+    pub queue-ends : {q₀ q : State} → AtQueue q₀ 0 q head → q .tail ≤ head
+        → RanOut (searchFrom s c (s .buckets) 0 (queue q₀)) (s .buckets) (q .words) (q .tail)
+    queue-ends {q₀} {q} t h = says-exhausted q _ (t .sparse) (sym (done head q h) ∙ t .same ∙ starts q₀)
 
     -- a candidate that is the end: q₁ is where the cells' loop began, q₂ where the candidates' did
     pub ends-found : {k j x : ℕ} {xs w′ : List ℕ} {q₀ q₁ q₂ q : State} {r : Visited} → Laws s → AtQueue q₀ 0 q₁ head → head < q₁ .tail → AtCell head q₁ 0 q₂ k → k < 4
         → (b : ℕ) → b ≡ bucketIn (q₁ .words) head → xs ≡ candidates s (cell c (4 * b + k)) b → AtOther head k xs q₂ 1 q j
         → drop j xs ≡ x ∷ drop (j + 1) xs → Visits c (s .buckets) x head k (q .words) (q .tail) w′ r → (i : ℕ) → some i ≡ placeIs (r .place)
-        → Searches (SearchAnswer.Found i (r .tail - 1)) (s .buckets) w′ roots (searchFrom s c (s .buckets) 0 (queue q₀))
+        → Ended (searchFrom s c (s .buckets) 0 (queue q₀)) (s .buckets) w′ i roots (r .tail - 1)
     ends-found {k} {j} {x} {xs} {w′} {q₀} {q₁} {q₂} {q} {r} L t h a hk b eb e u d v i f =
         let whole : Since head q₁ q = since-then (a .since) (u .since) in
         let last = hits q o (omega (arith, t .rooted, whole .order)) (omega (arith, whole .order)) v (entry q₁ head) (whole .stays) xs j d i f in
-        says-found (visited q w′ r) _ (v .sparse) i _ _
+        says-found (visited q w′ r) _ (v .sparse) o i _ _
         (last .0 ∙ subst (λ (y : Node). fromOther y head k xs j q ≡ fromOther y head k xs 1 q₂) (a .since .stays) (u .same)
         ∙ cell-starts L q₁ head k b xs q₂ hk eb e ∙ a .same ∙ turn head q₁ h (t .sparse .count) ∙ t .same ∙ starts q₀)
         (last .1)

@@ -21,6 +21,7 @@ use index::TagEntry;
 mod search;
 
 pub use search::hold;
+pub use search::probe;
 
 // A cell's number, where one is found.
 enum Place {
@@ -41,10 +42,27 @@ struct Visited {
     place: Place,
 }
 
-// How a search ends: with an empty cell and the queue index of its bucket, or with none.
+// How a search ends: with an empty cell and the queue index of its bucket, or with none and the number of buckets marked.
 enum SearchAnswer {
     Found(usize, usize),
-    Exhausted,
+    Exhausted(usize),
+}
+
+// Where the entry of a tag would go: to an empty cell of one of its candidates; to one at the end of a relocation path, with how many
+// entries of the queue are roots and the queue index of the cell's bucket; or nowhere, with the number of buckets marked.
+pub enum ProbeAnswer {
+    Refused(u32),
+    Free {
+        print: u16,
+        cell: usize,
+    },
+    Path {
+        print: u16,
+        cell: usize,
+        roots: usize,
+        last: usize,
+    },
+    Exhausted(usize),
 }
 
 pub enum ClearAnswer {

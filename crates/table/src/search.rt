@@ -1,5 +1,5 @@
 // The search for an empty cell, breadth first, and the moves along the path that it finds. The queue and
-// the marks stand in scratch as a sparse set, which is never cleared (specs/Internal.antt).
+// the marks stand in scratch as a sparse set, which is never cleared (specs/Scratch.antt).
 ghost use mathlib.Core.Path.{_≡_};
 ghost use mathlib.Core.Bool.{false};
 ghost use mathlib.Core.List.{[], _∷_};
@@ -11,9 +11,12 @@ ghost use Rattle.calls.specs.Cells.{firstHolding, lowestEmpty, inFirst};
 ghost use Rattle.calls.specs.Search.{marked as markedIn, searchFrom, rootsFrom, relocate as relocated};
 ghost use Rattle.calls.specs.Calls.{Sound, holdIn};
 ghost use Rattle.table.specs.Answers.{holdIs, Holds};
-ghost use Rattle.table.specs.Internal.{placeIs, bucketIn, originIn, queueIn, pathIn, Sparse, Queues, Visits, Searches};
+ghost use Rattle.table.specs.Scratch.{bucketIn, originIn, queueIn, pathIn, Sparse};
+ghost use Rattle.table.specs.Probes.{Probed, Probes};
+ghost use Rattle.table.specs.Internal.{placeIs, Queues, Visits, Sought};
 use super::HoldAnswer;
 use super::Place;
+use super::ProbeAnswer;
 use super::SearchAnswer;
 use super::Visited;
 use super::table_refusal;
@@ -174,12 +177,11 @@ fn find_path(s: Settings, table: &[u16], scratch: &mut [u32], roots: usize) -> S
     requires { ⌜ Sound s (now table) ⌝ }
     requires { ⌜ Sparse (s .buckets) (now scratch) roots ⌝ }
     requires { ⌜ 1 ≤ roots ⌝ }
-    ensures { λ r. ⌜ Searches r (s .buckets) (now (scratch .exit)) roots (searchFrom s (now (table .entry)) (s .buckets) 0 (queueIn (s .buckets) (now (scratch .entry)) roots roots)) ⌝ }
+    ensures { λ r. ⌜ Sought (searchFrom s (now (table .entry)) (s .buckets) 0 (queueIn (s .buckets) (now (scratch .entry)) roots roots)) (s .buckets) (now (scratch .exit)) roots r ⌝ }
 {
     let m = s.buckets as usize;
     let mut head = 0;
     let mut tail = roots;
-    let mut answer = SearchAnswer::Exhausted;
     'queue: while head < tail {
         let b = bucket_at(scratch, m, tail, head);
         let mut c = 0;
@@ -193,8 +195,7 @@ fn find_path(s: Settings, table: &[u16], scratch: &mut [u32], roots: usize) -> S
                 tail = v.tail;
                 let place = v.place;
                 if let Place::At(i) = place {
-                    answer = SearchAnswer::Found(i, tail - 1);
-                    break 'queue;
+                    return SearchAnswer::Found(i, tail - 1);
                 }
                 k += 1;
             }
@@ -202,7 +203,21 @@ fn find_path(s: Settings, table: &[u16], scratch: &mut [u32], roots: usize) -> S
         }
         head += 1;
     }
-    answer
+    SearchAnswer::Exhausted(tail)
+}
+
+// The one search of a hold and of a forecast.
+fn search(s: Settings, table: &[u16], scratch: &mut [u32], roots: usize) -> SearchAnswer
+    requires { ⌜ Sound s (now table) ⌝ }
+    requires { ⌜ Sparse (s .buckets) (now scratch) roots ⌝ }
+    requires { ⌜ 1 ≤ roots ⌝ }
+    ensures { λ r. ⌜ Sought (searchFrom s (now (table .entry)) (s .buckets) 0 (queueIn (s .buckets) (now (scratch .entry)) roots roots)) (s .buckets) (now (scratch .exit)) roots r ⌝ }
+{
+    // Never taken: it shows the compiler what the contract says, so that the loops do not ask for each cell whether the settings pass.
+    if s.refusal() != 0 {
+        return SearchAnswer::Exhausted(0);
+    }
+    find_path(s, table, scratch, roots)
 }
 
 // The cell that entry i was reached from.
@@ -248,36 +263,67 @@ fn relocate(
     moves
 }
 
-// Places p, from bucket home: in the lowest empty cell of the first candidate that has one, else by the
-// search.
-pub(super) fn insert(
-    s: Settings,
-    table: &mut [u16],
-    scratch: &mut [u32],
-    p: u16,
-    home: u32,
-) -> HoldAnswer
+// Where fingerprint p would go from bucket home: to the lowest empty cell of the first candidate that has one, else where the search
+// ends.
+fn probe_entry(s: Settings, table: &[u16], scratch: &mut [u32], p: u16, home: u32) -> ProbeAnswer
+    requires { ⌜ Sound s (now table) ⌝ }
+    requires { ⌜ (2 * s .buckets ≤ length (now scratch)) × (home < s .buckets) ⌝ }
+    ensures { λ r. ⌜ Probed s (now (table .entry)) p home (now (scratch .exit)) r ⌝ }
+{
+    let list = index::candidates(s, p, home);
+    if let Place::At(i) = first_empty(table, list) {
+        return ProbeAnswer::Free { print: p, cell: i };
+    }
+    let roots = seed(scratch, s.buckets as usize, list);
+    match search(s, table, scratch, roots) {
+        SearchAnswer::Found(i, last) => ProbeAnswer::Path {
+            print: p,
+            cell: i,
+            roots: roots,
+            last: last,
+        },
+        SearchAnswer::Exhausted(marked) => ProbeAnswer::Exhausted(marked),
+    }
+}
+
+// Where the entry of a tag would go, with the checks of a hold. No cell is changed.
+pub fn probe(s: Settings, table: &[u16], scratch: &mut [u32], tag: &[u8]) -> ProbeAnswer
+    ensures { λ r. ⌜ Probes r s (now (table .entry)) (now (scratch .entry)) (now (scratch .exit)) (now (tag .entry)) ⌝ }
+{
+    let n = table_refusal(s, table);
+    if n != 0 {
+        return ProbeAnswer::Refused(n);
+    }
+    let buckets = s.buckets as usize;
+    if scratch.len() < 2 * buckets {
+        return ProbeAnswer::Refused(6);
+    }
+    match index::entry_of(s, tag) {
+        TagEntry::Refused(k) => ProbeAnswer::Refused(k),
+        TagEntry::At(p, home) => probe_entry(s, table, scratch, p, home),
+    }
+}
+
+// Places p, from bucket home: where probe_entry says, by the same search, and with the moves that lead there. It is not called here: most
+// holds find an empty cell at once, and what it would hand over takes them a fifth longer.
+fn insert(s: Settings, table: &mut [u16], scratch: &mut [u32], p: u16, home: u32) -> HoldAnswer
     requires { ⌜ Sound s (now table) ⌝ }
     requires { ⌜ (2 * s .buckets ≤ length (now scratch)) × (home < s .buckets) ⌝ }
     ensures { λ r. ⌜ outcome (holdIs r) (now (table .exit)) ≡ keeping (now (table .entry)) (holdIn s (now (table .entry)) p home) ⌝ }
 {
-    let m = s.buckets as usize;
     let list = index::candidates(s, p, home);
-    match first_empty(table, list) {
-        Place::At(i) => {
-            write_cell(table, i, p);
-            HoldAnswer::Accepted(0)
+    if let Place::At(i) = first_empty(table, list) {
+        write_cell(table, i, p);
+        return HoldAnswer::Accepted(0);
+    }
+    let m = s.buckets as usize;
+    let roots = seed(scratch, m, list);
+    match search(s, table, scratch, roots) {
+        SearchAnswer::Found(i, last) => {
+            let moves = relocate(table, scratch, m, roots, last, i, p);
+            HoldAnswer::Accepted(moves)
         }
-        Place::Nowhere => {
-            let roots = seed(scratch, m, list);
-            match find_path(s, table, scratch, roots) {
-                SearchAnswer::Found(i, last) => {
-                    let moves = relocate(table, scratch, m, roots, last, i, p);
-                    HoldAnswer::Accepted(moves)
-                }
-                SearchAnswer::Exhausted => HoldAnswer::Refused(9),
-            }
-        }
+        SearchAnswer::Exhausted(_) => HoldAnswer::Refused(9),
     }
 }
 

@@ -15,8 +15,10 @@ extern "C" {
     fn holdlist_lookup(settings: *const Settings, table: *const u16, cells: usize, tag: *const u8, length: usize) -> i64;
     fn holdlist_release(settings: *const Settings, table: *mut u16, cells: usize, tag: *const u8, length: usize) -> i64;
     fn holdlist_hold(settings: *const Settings, table: *mut u16, cells: usize, scratch: *mut u32, words: usize, tag: *const u8, length: usize) -> i64;
+    fn holdlist_forecast(settings: *const Settings, table: *const u16, cells: usize, scratch: *mut u32, words: usize, tag: *const u8, length: usize) -> i64;
     fn holdlist_view_check(settings: *const Settings, table: *const u16, cells: usize, bucket: u32) -> i64;
     fn holdlist_file_write(settings: *const Settings, table: *const u16, cells: usize, out: *mut u8, room: usize) -> i64;
+    fn holdlist_file_length(settings: *const Settings, table: *const u16, cells: usize) -> i64;
     fn holdlist_file_settings(bytes: *const u8, length: usize, settings: *mut Settings) -> i64;
     fn holdlist_file_read(bytes: *const u8, length: usize, table: *mut u16, cells: usize, settings: *mut Settings) -> i64;
     fn holdlist_file_convert(bytes: *const u8, length: usize, out: *mut u8, room: usize) -> i64;
@@ -148,6 +150,36 @@ impl Engine {
     }
 
     #[inline]
+    pub fn forecast(self, s: &Settings, table: &[u16], scratch: &mut [u32], tag: &[u8]) -> i64 {
+        unsafe { self.forecast_at(s, self.place(table), table.len(), scratch, tag) }
+    }
+
+    /// A forecast in a table of which not every cell needs to be in reach.
+    ///
+    /// # Safety
+    ///
+    /// `table` is good for the cells of the `cells` that the forecast reads.
+    #[inline]
+    pub unsafe fn forecast_at(
+        self,
+        s: &Settings,
+        table: *const u16,
+        cells: usize,
+        scratch: &mut [u32],
+        tag: &[u8],
+    ) -> i64 {
+        holdlist_forecast(
+            s,
+            table,
+            cells,
+            self.place_mut(scratch),
+            scratch.len(),
+            self.place(tag),
+            tag.len(),
+        )
+    }
+
+    #[inline]
     pub fn view_check(self, s: &Settings, table: &[u16], bucket: u32) -> i64 {
         unsafe { holdlist_view_check(s, self.place(table), table.len(), bucket) }
     }
@@ -163,6 +195,11 @@ impl Engine {
                 out.len(),
             )
         }
+    }
+
+    #[inline]
+    pub fn file_length(self, s: &Settings, table: &[u16]) -> i64 {
+        unsafe { holdlist_file_length(s, self.place(table), table.len()) }
     }
 
     #[inline]

@@ -9,6 +9,7 @@
 
 pub mod boundary;
 pub mod make;
+pub mod pages;
 pub mod pair;
 pub mod run;
 pub mod seed;

@@ -115,6 +115,20 @@ pub fn cells(mix: &mut Mix, settings: Settings, kind: Cells) -> Vec<u16> {
         .collect()
 }
 
+/// Words that might be taken for marks of a search over so many buckets.
+pub fn scratch(mix: &mut Mix, buckets: u32, words: usize) -> Vec<u32> {
+    let (m, n) = (buckets, words as u32);
+    match mix.below(7) {
+        0 => vec![0; words],
+        1 => vec![u32::MAX; words],
+        2 => (0..n).collect(),
+        3 => (0..n).map(|i| i % m).collect(),
+        4 => (0..n).map(|i| i % m * 0x1_0001).collect(),
+        5 => (0..n).map(|i| n - i).collect(),
+        _ => (0..n).map(|_| mix.draw() as u32).collect(),
+    }
+}
+
 /// Bytes added, taken away or changed.
 pub fn damage(mix: &mut Mix, bytes: &mut Vec<u8>) {
     let n = bytes.len() as u64;

@@ -22,8 +22,10 @@ pub enum Call<'a> {
     Lookup(&'a [u8]),
     Release(&'a [u8]),
     Hold(&'a [u8]),
+    Forecast(&'a [u8]),
     View(u32),
     FileWrite,
+    FileLength,
     FileRead,
     FileConvert,
     PackedWrite,
@@ -183,6 +185,11 @@ impl Pair {
         self.scratch.put(0, words);
     }
 
+    /// What the engine's scratch holds.
+    pub fn scratch(&self) -> &[u32] {
+        &self.scratch.engine[self.scratch.from..][..self.scratch.size()]
+    }
+
     pub fn set_input(&mut self, at: usize, bytes: &[u8]) {
         self.input.put(at, bytes);
     }
@@ -206,7 +213,8 @@ impl Pair {
         | Call::Home(tag)
         | Call::Lookup(tag)
         | Call::Release(tag)
-        | Call::Hold(tag) = call
+        | Call::Hold(tag)
+        | Call::Forecast(tag) = call
         {
             self.tag.put(0, tag);
         }
@@ -277,6 +285,19 @@ impl Pair {
                 }
                 (found, expected)
             }
+            Call::Forecast(tag) => {
+                let (mine, other) = self.table.parts(lend.cells);
+                let (my_tag, tag) = self.tag.parts(tag.len());
+                let (scratch, before) = self.scratch.parts(lend.words);
+                let oracle_scratch = &mut self.oracle_scratch[..lend.words];
+                let expected = number(table::forecast(s, other, oracle_scratch, tag), i64::from);
+                let found = engine.forecast(&s, mine, scratch, my_tag);
+                // As after a hold.
+                if !(-7..=-1).contains(&expected) {
+                    before.copy_from_slice(scratch);
+                }
+                (found, expected)
+            }
             Call::View(bucket) => {
                 let (mine, other) = self.table.parts(lend.cells);
                 let expected = -i64::from(table::view_check(s, other, bucket));
@@ -287,6 +308,11 @@ impl Pair {
                 let (my_out, out) = self.out.parts(lend.room);
                 let expected = number(holdfile::write(s, other, out), |n| n as i64);
                 (engine.file_write(&s, mine, my_out), expected)
+            }
+            Call::FileLength => {
+                let (mine, other) = self.table.parts(lend.cells);
+                let expected = number(holdfile::file_length(s, other), |n| n as i64);
+                (engine.file_length(&s, mine), expected)
             }
             Call::FileRead => {
                 let (mine, other) = self.table.parts(lend.cells);
@@ -329,7 +355,7 @@ impl Pair {
             .or_else(|| self.tag.difference("byte of the tag"))
             .or_else(|| self.table.difference("cell"))
             .or_else(|| match call {
-                Call::Hold(_) => self.scratch.difference("word of scratch"),
+                Call::Hold(_) | Call::Forecast(_) => self.scratch.difference("word of scratch"),
                 Call::FileWrite | Call::PackedWrite => self.out.difference("byte of the output"),
                 Call::FileRead | Call::PackedRead => self.input.difference("byte of the input"),
                 Call::FileConvert => self

@@ -373,8 +373,11 @@ fn empty_buffers() {
             Call::Release(&[]),
             Call::Hold(&tag),
             Call::Hold(&[]),
+            Call::Forecast(&tag),
+            Call::Forecast(&[]),
             Call::View(0),
             Call::FileWrite,
+            Call::FileLength,
             Call::PackedWrite,
             Call::PackedRead,
         ] {
@@ -386,6 +389,10 @@ fn empty_buffers() {
         expect(whole, Call::Hold(&[]), -7);
         expect(Lend { words: 0, ..whole }, Call::Hold(&tag), -6);
         expect(Lend { words: 0, ..whole }, Call::Hold(&[]), -6);
+        expect(whole, Call::Forecast(&[]), -7);
+        expect(Lend { words: 0, ..whole }, Call::Forecast(&tag), -6);
+        expect(Lend { words: 0, ..whole }, Call::Forecast(&[]), -6);
+        expect(whole, Call::Forecast(&tag), -9);
         expect(none, Call::FileRead, -11);
         expect(none, Call::FileConvert, -11);
         expect(whole.input(0), Call::FileRead, -11);
@@ -393,6 +400,15 @@ fn empty_buffers() {
         expect(whole.input(0), Call::PackedRead, -11);
         expect(whole.room(0), Call::FileWrite, -16);
         expect(whole.room(0), Call::PackedWrite, -16);
+        expect(whole.room(0), Call::FileLength, 22);
+        expect(
+            Lend {
+                words: 0,
+                ..whole.room(0)
+            },
+            Call::FileLength,
+            22,
+        );
         // A good file of a table that is not there.
         pair.set_input(0, &[0x26, 4, 1, 0, 0]);
         pair.set_input(5, &[0]);
@@ -406,5 +422,5 @@ fn empty_buffers() {
         assert_eq!(pair.run(none.input(9).room(6), Call::FileConvert), 6);
         assert_eq!(pair.out()[..6], [0x26, 4, 1, 0, 0, 0]);
     }
-    pair.done(&[5, 6, 7, 11, 16, 24]);
+    pair.done(&[5, 6, 7, 9, 11, 16, 24]);
 }

@@ -1,6 +1,6 @@
 //! Histories of calls on one table, with wrong lengths and bad settings in between.
 
-use engine::make::{cells, damage, long, mask, one_of, salt, settings, spoil, tag, Cells};
+use engine::make::{cells, damage, long, mask, one_of, salt, scratch, settings, spoil, tag, Cells};
 use engine::pair::{Call, Lend, Pair};
 use oracle::holdfile::HEAD;
 use oracle::index::{Settings, MASKED, PLAIN, RING};
@@ -22,17 +22,8 @@ fn open(pair: &mut Pair, s: Settings, bytes: usize) {
 
 /// Fills scratch with what might be taken for marks of a search.
 fn dirty(pair: &mut Pair, s: Settings) {
-    let m = s.buckets;
-    let n = 2 * m + SPARE as u32;
-    let words: Vec<u32> = match pair.mix.below(7) {
-        0 => vec![0; n as usize],
-        1 => vec![u32::MAX; n as usize],
-        2 => (0..n).collect(),
-        3 => (0..n).map(|i| i % m).collect(),
-        4 => (0..n).map(|i| i % m * 0x1_0001).collect(),
-        5 => (0..n).map(|i| n - i).collect(),
-        _ => (0..n).map(|_| pair.mix.draw() as u32).collect(),
-    };
+    let words = Lend::of(s).words + SPARE;
+    let words = scratch(&mut pair.mix, s.buckets, words);
     pair.set_scratch(&words);
 }
 
@@ -91,7 +82,11 @@ fn through_bytes(pair: &mut Pair, s: Settings) {
     };
     let most = most_bytes(s) + SPARE;
     let lend = lent(&mut pair.mix, s).room(most);
+    let told = pair.run(lend, Call::FileLength);
     let length = pair.run(lend, write);
+    if let Call::FileWrite = write {
+        assert_eq!(length, told);
+    }
     if length < 0 {
         return;
     }
@@ -123,7 +118,19 @@ fn step(pair: &mut Pair, s: Settings, holds: u32, kinds: u64) {
             if mix.below(8) == 0 {
                 dirty(pair, s);
             }
-            pair.run(lend, Call::Hold(&tag));
+            match pair.mix.below(4) {
+                // With whatever the forecast left in scratch, or something else.
+                n if n < 2 => {
+                    let told = pair.run(lend, Call::Forecast(&tag));
+                    if n == 0 {
+                        dirty(pair, s);
+                    }
+                    assert_eq!(pair.run(lend, Call::Hold(&tag)), told);
+                }
+                _ => {
+                    pair.run(lend, Call::Hold(&tag));
+                }
+            }
         }
         n if n < 75 => {
             pair.run(lend, Call::Release(&tag));
@@ -212,7 +219,8 @@ fn any_cells() {
             let tag = some_tag(&mut pair.mix, 1 << 20);
             let lend = lent(&mut pair.mix, s);
             pair.run(lend, Call::Lookup(&tag));
-            pair.run(lend, Call::Hold(&tag));
+            let told = pair.run(lend, Call::Forecast(&tag));
+            assert_eq!(pair.run(lend, Call::Hold(&tag)), told);
             if i % 3 == 0 {
                 pair.run(lend, Call::Release(&tag));
             }
@@ -290,7 +298,8 @@ fn large() {
             pair.set_table(0, &full);
             for _ in 0..4 {
                 let tag = tag(pair.mix.draw() as u32);
-                pair.run(Lend::of(s), Call::Hold(&tag));
+                let told = pair.run(Lend::of(s), Call::Forecast(&tag));
+                assert_eq!(pair.run(Lend::of(s), Call::Hold(&tag)), told);
             }
         }
     }

@@ -103,7 +103,11 @@ impl<'a> Sides<'a> {
         let before = self.table.clone();
         let refused = match call {
             Call::Hold => {
+                let mut other: Vec<u32> = (0..words).map(|_| self.mix.draw() as u32).collect();
+                let told = engine.forecast(&s, &self.table, &mut other, tag);
+                assert_eq!(self.table, before, "{at}");
                 let moves = engine.hold(&s, &mut self.table, &mut self.scratch[..words], tag);
+                assert_eq!(told, moves, "{at}");
                 let found = said(moves, |_| ());
                 assert_eq!(found, self.model.hold(tag, words), "{at}");
                 if found.is_ok() {

@@ -1,26 +1,17 @@
-//! Which cells a hold fetches. Its contract says nothing of that, so it is seen from the outside: the
-//! cells after a bucket's first pair, and all buckets after it, lie in a page that cannot be read.
+//! Which cells a hold fetches, and a forecast of one. Their contracts say nothing of that, so it is seen
+//! from the outside: the cells after a bucket's first pair, and all buckets after it, lie in a page that
+//! cannot be read.
 
 use engine::boundary::Engine;
+use engine::pages::{Pages, PAGE};
 use oracle::index::{self, Settings, MASKED, PLAIN, RING};
 use std::env;
-use std::ffi::c_void;
 use std::os::unix::process::ExitStatusExt;
 use std::process::Command;
-use std::ptr;
 
 const ENGINE: Engine = Engine { null: false };
-const PAGE: usize = 4096;
 const BUCKETS: u32 = 64;
-const READ_WRITE: i32 = 3;
-const PRIVATE_ANONYMOUS: i32 = 0x22;
 const SEGMENTATION_FAULT: i32 = 11;
-
-#[rustfmt::skip]
-extern "C" {
-    fn mmap(at: *mut c_void, length: usize, access: i32, flags: i32, file: i32, offset: i64) -> *mut c_void;
-    fn mprotect(at: *mut c_void, length: usize, access: i32) -> i32;
-}
 
 /// A table of which cell `4b + 2` and all after it are out of reach, the others empty.
 struct Guarded {
@@ -28,34 +19,26 @@ struct Guarded {
     table: *mut u16,
     bucket: u32,
     tags: Vec<[u8; 4]>,
+    _pages: Pages,
 }
 
 impl Guarded {
     fn new(s: Settings, bucket: u32) -> Self {
-        // Two pages of zeros that nobody else has; the second is closed.
-        let pages = unsafe {
-            mmap(
-                ptr::null_mut(),
-                2 * PAGE,
-                READ_WRITE,
-                PRIVATE_ANONYMOUS,
-                -1,
-                0,
-            )
-        };
-        assert!(!pages.is_null() && pages as isize != -1);
-        let second = pages.cast::<u8>().wrapping_add(PAGE);
-        assert_eq!(unsafe { mprotect(second.cast(), PAGE, 0) }, 0);
+        let pages = Pages::new(PAGE);
         let home = |tag: &[u8; 4]| index::entry(s, tag).unwrap().1 == bucket;
         Guarded {
             s,
-            table: second.cast::<u16>().wrapping_sub(4 * bucket as usize + 2),
+            table: pages
+                .end()
+                .cast::<u16>()
+                .wrapping_sub(4 * bucket as usize + 2),
             bucket,
             tags: (0..u32::MAX)
                 .map(u32::to_be_bytes)
                 .filter(home)
                 .take(3)
                 .collect(),
+            _pages: pages,
         }
     }
 
@@ -65,6 +48,20 @@ impl Guarded {
         // A cell that is fetched from the closed page ends the program.
         unsafe {
             ENGINE.hold_at(
+                &self.s,
+                self.table,
+                4 * BUCKETS as usize,
+                &mut scratch,
+                &self.tags[i],
+            )
+        }
+    }
+
+    /// Forecasts that hold.
+    fn forecast(&self, i: usize) -> i64 {
+        let mut scratch = [0; 2 * BUCKETS as usize];
+        unsafe {
+            ENGINE.forecast_at(
                 &self.s,
                 self.table,
                 4 * BUCKETS as usize,
@@ -88,6 +85,7 @@ fn no_cell_after_the_first_pair_with_an_empty_one_is_fetched() {
             let lent = Guarded::new(s, bucket);
             let mut want = vec![0; 4 * bucket as usize + 2];
             for i in 0..2 {
+                assert_eq!(lent.forecast(i), 0, "tag {i} in bucket {bucket} with {s:?}");
                 assert_eq!(lent.hold(i), 0, "tag {i} in bucket {bucket} with {s:?}");
                 want[4 * bucket as usize + i] = index::entry(s, &lent.tags[i]).unwrap().0;
                 let cells: Vec<u16> = (0..want.len() as u32).map(|c| lent.cell(c)).collect();
@@ -107,12 +105,29 @@ fn third_hold() {
     }
 }
 
+/// And so has its forecast.
+#[test]
+#[ignore]
+fn third_forecast() {
+    let lent = Guarded::new(Settings::new(PLAIN, 16, BUCKETS, 0), 17);
+    for i in 0..2 {
+        lent.hold(i);
+    }
+    lent.forecast(2);
+}
+
 #[test]
 fn a_cell_that_is_fetched_shows() {
-    let status = Command::new(env::current_exe().unwrap())
-        .args(["--ignored", "--exact", "third_hold"])
-        .output()
-        .unwrap()
-        .status;
-    assert_eq!(status.signal(), Some(SEGMENTATION_FAULT), "{status}");
+    for name in ["third_hold", "third_forecast"] {
+        let status = Command::new(env::current_exe().unwrap())
+            .args(["--ignored", "--exact", name])
+            .output()
+            .unwrap()
+            .status;
+        assert_eq!(
+            status.signal(),
+            Some(SEGMENTATION_FAULT),
+            "{name}: {status}"
+        );
+    }
 }

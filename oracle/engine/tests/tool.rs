@@ -15,6 +15,7 @@ use oracle::{former, holdfile, packed, table};
 use std::fs;
 use std::io::{BufRead, BufReader, Write};
 use std::os::unix::fs::{symlink, PermissionsExt};
+use std::path::Path;
 use std::process::{Command, Stdio};
 use std::sync::{mpsc, Mutex};
 use std::thread;
@@ -290,8 +291,8 @@ impl List {
             b"settings" if words.is_empty() => return Ok(self.told_settings()),
             b"settings" => (4, 5),
             b"view" => (1, 1),
-            b"clear" | b"stats" | b"help" => (0, 0),
-            b"hold" | b"release" | b"lookup" => (1, LINE),
+            b"clear" | b"length" | b"stats" | b"help" => (0, 0),
+            b"hold" | b"release" | b"lookup" | b"forecast" => (1, LINE),
             b"save" | b"load" | b"pack" | b"unpack" => (1, LINE),
             b"convert" => (2, LINE),
             _ => return self.bad(NO_COMMAND),
@@ -300,7 +301,7 @@ impl List {
             return self.bad(match command {
                 b"settings" => FEW_SETTINGS,
                 b"view" => NO_BUCKET,
-                b"hold" | b"release" | b"lookup" => NO_TAG,
+                b"hold" | b"release" | b"lookup" | b"forecast" => NO_TAG,
                 b"convert" => NO_NAMES,
                 _ => NO_NAME,
             });
@@ -314,7 +315,7 @@ impl List {
         }
         let rest = trimmed(&text[command.len()..]);
         match command {
-            b"hold" | b"release" | b"lookup" => match typed(rest) {
+            b"hold" | b"release" | b"lookup" | b"forecast" => match typed(rest) {
                 Some(tag) => self.with_tag(command, &tag),
                 None => self.bad(NO_HEX),
             },
@@ -341,6 +342,10 @@ impl List {
                 self.begin(self.settings);
                 Ok("cleared".into())
             }
+            b"length" => {
+                let length = holdfile::file_length(self.settings, &self.table)?;
+                Ok(format!("{length} bytes"))
+            }
             b"stats" => Ok(self.stats()),
             _ => Ok(help()),
         }
@@ -359,10 +364,11 @@ impl List {
             b"hold" => {
                 let moves = table::hold(s, table, &mut self.scratch, tag)?;
                 self.longest = self.longest.max(moves);
-                match moves {
-                    1 => "accepted, 1 move".into(),
-                    _ => format!("accepted, {moves} moves"),
-                }
+                accepted(moves)
+            }
+            b"forecast" => {
+                let moves = table::forecast(s, table, &mut self.scratch, tag)?;
+                format!("would be {}", accepted(moves))
             }
             b"release" => match table::release(s, table, tag)? {
                 true => "released".into(),
@@ -501,6 +507,14 @@ impl List {
         let count = packed::read(self.settings, bytes, &mut self.table)?;
         self.longest = 0;
         Ok(format!("unpacked, {}", in_words(count)))
+    }
+}
+
+/// How many entries moved, in words.
+fn accepted(moves: u32) -> String {
+    match moves {
+        1 => "accepted, 1 move".to_string(),
+        _ => format!("accepted, {moves} moves"),
     }
 }
 
@@ -691,11 +705,19 @@ view 18446744073709551616\n\
 view 340282366920938463463374607431768211456\n\
 view 99999999999999999999999999999999999999999999\n\
 clear all\n\
+length now\n\
+length 0\n\
+lengths\n\
 stats now\n\
 help me\n\
 hold\n\
 release \t\n\
 lookup\r\n\
+forecast\n\
+forecast \t\r\n\
+forecasts a\n\
+fore a\n\
+forecast 0x1\n\
 save\n\
 load\n\
 pack\n\
@@ -742,6 +764,8 @@ struct Maker {
     /// Tags that were accepted, as they were typed.
     held: Vec<Vec<u8>>,
     moves: u32,
+    /// Forecasts of no move, of some, and of no room.
+    forecasts: [u32; 3],
 }
 
 impl Maker {
@@ -754,6 +778,7 @@ impl Maker {
             kinds: 1,
             held: vec![],
             moves: 0,
+            forecasts: [0; 3],
         }
     }
 
@@ -970,14 +995,43 @@ impl Maker {
         }
     }
 
+    fn hold(&mut self, tag: Vec<u8>) {
+        self.say("hold", &tag);
+        if matches!(self.said.last(), Some(Ok(_))) {
+            self.held.push(tag);
+        }
+    }
+
+    /// Before a hold of the tag, or of another, or of none.
+    fn forecast(&mut self) {
+        let tag = self.tag();
+        self.say("forecast", &tag);
+        match self.said.last() {
+            Some(Ok(line)) if line == "would be accepted, 0 moves" => self.forecasts[0] += 1,
+            Some(Ok(_)) => self.forecasts[1] += 1,
+            Some(Err(9)) => self.forecasts[2] += 1,
+            _ => {}
+        }
+        match self.mix.below(4) {
+            0 => self.line(b"stats"),
+            1 => self.hold(tag),
+            _ => {}
+        }
+    }
+
+    /// How long the file will be, and now and then the file.
+    fn length(&mut self) {
+        self.say("length", b"");
+        if self.mix.below(4) == 0 {
+            self.say("save", b"a.hold");
+        }
+    }
+
     fn step(&mut self, holds: u32) {
-        match self.mix.below(203) {
+        match self.mix.below(223) {
             n if n < holds => {
                 let tag = self.tag();
-                self.say("hold", &tag);
-                if matches!(self.said.last(), Some(Ok(_))) {
-                    self.held.push(tag);
-                }
+                self.hold(tag);
             }
             n if n < 140 => {
                 let tag = self.release_tag();
@@ -997,7 +1051,8 @@ impl Maker {
             180..=189 => self.bad_line(),
             190..=193 => self.remark(),
             194..=197 => {
-                let command = one_of(&mut self.mix, &["hold", "release", "lookup"]);
+                let commands = ["hold", "release", "lookup", "forecast"];
+                let command = one_of(&mut self.mix, &commands);
                 let tag = self.odd_tag();
                 self.say(command, &tag);
             }
@@ -1006,6 +1061,8 @@ impl Maker {
                 self.say_settings(s);
             }
             200..=202 => self.convert(),
+            203..=218 => self.forecast(),
+            219..=222 => self.length(),
             _ if self.mix.below(8) == 0 => self.say("clear", b""),
             _ => self.remark(),
         }
@@ -1034,6 +1091,7 @@ fn random_scripts() {
     let name = "random scripts";
     let mut refused = [0; 25];
     let (mut count, mut moves, mut converted) = (0, 0, 0);
+    let mut forecasts = [0; 3];
     for round in 0..8 * long() {
         let name = format!("{name} {round}");
         let mut mix = mix(&name);
@@ -1059,16 +1117,23 @@ fn random_scripts() {
         moves = moves.max(maker.moves);
         let good = |said: &&Said| matches!(said, Ok(line) if line.starts_with("converted, "));
         converted += maker.said.iter().filter(good).count();
+        for (all, some) in forecasts.iter_mut().zip(maker.forecasts) {
+            *all += some;
+        }
     }
     tell(
         name,
-        &format!(": {count} lines; refused {refused:?}; most moves {moves}; {converted} converted"),
+        &format!(
+            ": {count} lines; refused {refused:?}; most moves {moves}; {converted} converted; \
+             forecasts {forecasts:?}"
+        ),
     );
     for n in [1, 2, 3, 4, 7, 8, 9, 11, 12, 13, 14, 15, 18, 19, 20, 23, 24] {
         assert!(refused[n] > 0, "no line was refused with {n}");
     }
     assert!(moves > 2, "no hold had more than {moves} moves");
     assert!(converted > 20, "{converted} files were converted");
+    assert!(forecasts.iter().all(|&n| n > 20), "{forecasts:?}");
 }
 
 /// The same script by each way to hand it over.
@@ -1522,13 +1587,14 @@ fn help_names_every_command() {
     let answers = check_lines("help", &folder, &["help", " help\t"]);
     assert_eq!(answers[0], answers[1]);
     for command in [
-        "settings", "hold", "release", "lookup", "view", "clear", "save", "load", "pack", "unpack",
-        "convert", "stats", "help",
+        "settings", "hold", "release", "lookup", "forecast", "view", "clear", "save", "load",
+        "pack", "unpack", "convert", "length", "stats", "help",
     ] {
         let named = |word: &str| word.trim_matches(&[',', ';'][..]) == command;
         assert!(answers[0].split(' ').any(named), "{command}");
     }
-    assert!(answers[0].contains(", unpack FILE, convert FROM TO, "));
+    assert!(answers[0].contains(", lookup TAG, forecast TAG, view BUCKET, "));
+    assert!(answers[0].contains(", unpack FILE, convert FROM TO, length, stats, help; "));
 }
 
 // ── the largest lists ──
@@ -1551,7 +1617,7 @@ fn largest_lists() {
                 _ => script += &format!("hold 0x{:016x}\n", mix.draw()),
             }
         }
-        script += "stats\nsave f\npack p\nload f\nstats\nview 65535\nsave g\n";
+        script += "length\nstats\nsave f\npack p\nload f\nstats\nview 65535\nsave g\n";
         script += "clear\nunpack p\nstats\nview 65535\nsave h\npack q\n";
         let answers = check(name, &folder, script.as_bytes(), Way::Argument);
         let accepted = answers.iter().filter(|line| line.starts_with("accepted"));
@@ -1603,6 +1669,8 @@ fn fullest_files() {
             "load full",
             "stats",
             "hold a",
+            "forecast a",
+            "length",
             "view 65535",
             "view 65536",
             "save again",
@@ -1629,11 +1697,13 @@ fn fullest_files() {
         "loaded, 262144 entries, rule 2, width 16, buckets 65536, mask 23130, salt 18446744073709551615"
     );
     let stats = "entries 262144, buckets 65536, load 100.0 %, longest relocation 0";
-    assert_eq!([&answers[1], &answers[14], &answers[16]], [stats; 3]);
+    assert_eq!([&answers[1], &answers[16], &answers[18]], [stats; 3]);
     assert!(answers[2].starts_with("refused 9: "));
-    assert_eq!(answers[5], "saved, 589839 bytes");
+    assert_eq!(answers[3], answers[2]);
+    assert_eq!(answers[4], "589839 bytes");
+    assert_eq!(answers[7], "saved, 589839 bytes");
     assert!(folder.get("again") == file);
-    for answer in &answers[7..=9] {
+    for answer in &answers[9..=11] {
         assert!(answer.starts_with("refused 15: "), "{answer}");
     }
 }
@@ -2358,6 +2428,169 @@ fn conversions_and_the_list() {
     assert_eq!(folder.names(), ["f", "former", "p", "plain"]);
 }
 
+// ── forecasts ──
+
+const FULL: &str = "refused 9: the list is full for this tag, however its entries are moved";
+
+#[test]
+fn known_forecasts() {
+    let folder = Folder::new("known forecasts");
+    let pairs = [
+        ("length", "4097 bytes".to_string()),
+        ("forecast a", "would be accepted, 0 moves".into()),
+        // It was not held by this.
+        ("lookup a", "clear".into()),
+        ("hold a", "accepted, 0 moves".into()),
+        (" \tlength\r", "4099 bytes".into()),
+        ("save f", "saved, 4099 bytes".into()),
+        ("settings 0 4 1 0", "cleared".into()),
+        ("length", "5 bytes".into()),
+        ("hold a", "accepted, 0 moves".into()),
+        ("hold a", "accepted, 0 moves".into()),
+        ("hold a", "accepted, 0 moves".into()),
+        ("forecast a", "would be accepted, 0 moves".into()),
+        ("hold a", "accepted, 0 moves".into()),
+        ("forecast a", FULL.into()),
+        ("\r forecast\t\t0x61 ", FULL.into()),
+        ("forecast another", FULL.into()),
+        ("hold a", FULL.into()),
+        ("length", "13 bytes".into()),
+        ("release a", "released".into()),
+        ("forecast 0x61", "would be accepted, 0 moves".into()),
+        ("forecast a b", "would be accepted, 0 moves".into()),
+        ("length", "11 bytes".into()),
+        ("forecast", format!("line 23: {NO_TAG}")),
+        ("forecast \t", format!("line 24: {NO_TAG}")),
+        ("forecast 0x6", format!("line 25: {NO_HEX}")),
+        (
+            "forecast 0x",
+            "refused 7: the tag has no byte or more than 64".into(),
+        ),
+        ("length x", format!("line 27: {ALONE}")),
+        ("forecasts a", format!("line 28: {NO_COMMAND}")),
+        ("lengths", format!("line 29: {NO_COMMAND}")),
+        ("FORECAST a", format!("line 30: {NO_COMMAND}")),
+        // Nothing is written, so that a list that is not the last file's will do.
+        ("load none", format!("line 31: cannot read none: {NO_FILE}")),
+        ("length", "11 bytes".into()),
+        ("forecast a", "would be accepted, 0 moves".into()),
+        ("save f", format!("line 34: {NOT_THE_LIST}")),
+        ("clear", "cleared".into()),
+        ("length", "5 bytes".into()),
+        // The salt has eight bytes, the rule one and the mask two.
+        ("settings 2 4 4 1 1", "cleared".into()),
+        ("length", "19 bytes".into()),
+        (
+            "load f",
+            "loaded, 1 entry, rule 0, width 12, buckets 4096, mask 0, salt 0".into(),
+        ),
+        ("length", "4099 bytes".into()),
+    ];
+    let script: Vec<&str> = pairs.iter().map(|pair| pair.0).collect();
+    let answers = check_lines("known forecasts", &folder, &script);
+    for ((line, expected), answer) in pairs.iter().zip(&answers) {
+        assert_eq!(answer, expected, "{line}");
+    }
+    assert_eq!(folder.names(), ["f"]);
+}
+
+/// Each hold of lists that fill up answers what was forecast, and each file has the length that was
+/// told before.
+#[test]
+fn forecasts_come_true() {
+    let name = "forecasts come true";
+    let mut mix = mix(name);
+    // No move, one, more, and refused.
+    let mut seen = [0; 4];
+    for s in [
+        Settings::new(PLAIN, 8, 64, 0),
+        Settings::new(RING, 12, 50, 0).with_salt(2_027),
+        Settings::new(MASKED, 9, 32, 21),
+    ] {
+        let name = format!("{name} {}", s.rule);
+        let folder = Folder::new(&name);
+        let mut script = format!("settings {} {}\n", four(s), s.salt);
+        for _ in 0..6 * s.buckets {
+            let tag = mix.draw().to_string();
+            let digits = to_hex(tag.as_bytes());
+            script += &format!("stats\nforecast {tag}\nstats\nhold 0x{digits}\n");
+            script += "length\nsave f\n";
+        }
+        let answers = check(&name, &folder, script.as_bytes(), Way::Input(WHOLE));
+        for group in answers[1..].chunks(6) {
+            let (forecast, held) = (&group[1], &group[3]);
+            assert_eq!(group[0], group[2], "{name}: {forecast}");
+            match &held[..] {
+                FULL => assert_eq!(forecast, FULL, "{name}"),
+                _ => assert_eq!(*forecast, format!("would be {held}"), "{name}"),
+            }
+            seen[match &held[..] {
+                "accepted, 0 moves" => 0,
+                "accepted, 1 move" => 1,
+                FULL => 3,
+                _ => 2,
+            }] += 1;
+            assert_eq!(group[5], format!("saved, {}", group[4]), "{name}");
+        }
+    }
+    tell(name, &format!(": no move, one, more, refused: {seen:?}"));
+    assert!(seen.iter().all(|&n| n > 0), "{seen:?}");
+}
+
+/// However many forecasts there are, of moves too, the list stays, and so does its longest relocation.
+#[test]
+fn forecasts_change_nothing() {
+    let name = "forecasts change nothing";
+    let mut mix = mix(name);
+    let folder = Folder::new(name);
+    let s = Settings::new(RING, 11, 50, 0);
+    let mut list = List::new(folder.files());
+    list.begin(s);
+    // In some lists that are fuller, what has no room by itself has none by moves either.
+    while list.entries() < 174 {
+        let _ = list.with_tag(b"hold", mix.draw().to_string().as_bytes());
+    }
+    // Read back, so that no hold has moved anything.
+    folder.put("f", &hold_file(s, &list.table));
+    let mut script = format!("load f\n{}", look(50));
+    for _ in 0..500 {
+        script += &format!("forecast {}\n", mix.draw());
+    }
+    script += "length\nforecast 0x\nforecast\n";
+    script += &format!("{}save g\n", look(50));
+    let answers = check(name, &folder, script.as_bytes(), Way::Input(WHOLE));
+    let moved = |line: &&String| line.starts_with("would be ") && !line.ends_with(" 0 moves");
+    let moved = answers.iter().filter(moved).count();
+    assert!(moved > 5, "{moved} forecasts had moves");
+    assert_eq!(answers[1..52], answers[52 + 503..][..51]);
+    assert!(answers[1].ends_with("longest relocation 0"));
+    assert_eq!(folder.get("f"), folder.get("g"));
+}
+
+/// A forecast of a refusal counts as one: it ends a strict run, and shows in the exit status.
+#[test]
+fn forecasts_that_are_refused() {
+    let folder = Folder::new("refused forecasts");
+    let full = "settings 0 4 1 0\nhold a\nhold a\nhold a\nhold a\n";
+    let wrapper = Path::new(env!("CARGO_MANIFEST_DIR")).join("../../gedrunelj");
+    let stopped = "gedrunelj: 1 refused, 0 failed; stopped at line 6\n";
+    for (args, last, status, told, lines) in [
+        (&[][..], "release a\nforecast a\nlength\n", 0, "", 8),
+        (&[], "forecast a\nlength\n", 1, &counts(1, 0), 7),
+        (&[], "forecast a\nlength\nhold a\n", 1, &counts(2, 0), 8),
+        (&["--strict"], "forecast a\nlength\n", 1, stopped, 6),
+    ] {
+        let mut command = Command::new(&wrapper);
+        command.current_dir(&folder.0).env("GEDRUNELJ", tool());
+        let script = full.to_string() + last;
+        let output = talk(command.args(args), script.as_bytes(), WHOLE);
+        assert_eq!(output.status.code(), Some(status), "{last}");
+        assert_eq!(String::from_utf8_lossy(&output.stderr), told, "{last}");
+        let answers = String::from_utf8_lossy(&output.stdout);
+        assert_eq!(answers.lines().count(), lines, "{last}: {answers}");
+    }
+}
+
 // ── long lines ──
 
 /// A text with blanks before it, up to so many bytes.
@@ -2435,6 +2668,8 @@ fn long_arguments() {
     let nines = "view ".to_string() + &"9".repeat(LINE - 5);
     let words = "settings".to_string() + &" 1".repeat((LINE - 8) / 2);
     let gap = "lookup ".to_string() + &" ".repeat(LINE - 8) + "a";
+    let forecast = "forecast ".to_string() + &"a".repeat(LINE - 9);
+    let alone = "length".to_string() + &" ".repeat(LINE - 7) + "x";
     let one_name = "convert ".to_string() + &"n".repeat(LINE - 8);
     let two_names = "convert none".to_string() + &" ".repeat(LINE - 13) + "f";
     let long_name = "convert none ".to_string() + &"n".repeat(LINE - 13);
@@ -2449,6 +2684,8 @@ fn long_arguments() {
         &nines,
         &words,
         &gap,
+        &forecast,
+        &alone,
         &one_name,
         &two_names,
         &long_name,
@@ -2466,10 +2703,12 @@ fn long_arguments() {
         "line 7: the bucket is not a number",
         "line 8: settings takes four numbers and a salt, and no more",
         "clear",
-        "line 10: convert takes two names of files",
-        "line 11: cannot read none: ",
-        "line 12: cannot read none: ",
-        "line 13: there is no such command",
+        "refused 7: ",
+        "line 11: the command stands alone",
+        "line 12: convert takes two names of files",
+        "line 13: cannot read none: ",
+        "line 14: cannot read none: ",
+        "line 15: there is no such command",
     ];
     assert_eq!(answers.len(), starts.len());
     for (answer, start) in answers.iter().zip(starts) {
@@ -2547,8 +2786,16 @@ fn any_input() {
         // Most lines short, some with a command.
         for i in 0..length / 20 {
             let at = mix.below(length as u64) as usize;
-            let commands: [&[u8]; 6] =
-                [b"hold ", b"lookup ", b"release ", b"view ", b"stats", b"#"];
+            let commands: [&[u8]; 8] = [
+                b"hold ",
+                b"lookup ",
+                b"release ",
+                b"forecast ",
+                b"view ",
+                b"length",
+                b"stats",
+                b"#",
+            ];
             let command = one_of(&mut mix, &commands);
             if i % 2 == 0 && at > 0 && at + command.len() < length {
                 script[at - 1] = b'\n';

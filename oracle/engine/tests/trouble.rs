@@ -115,6 +115,8 @@ fn written_again() {
         ("settings 0 12 8 0 no", false),
         ("settings", false),
         ("hold b", false),
+        ("forecast b", false),
+        ("length", false),
         ("load missing", false),
         ("stats", false),
         ("convert former made", false),

@@ -8,7 +8,7 @@ use Rattle.file_form.specs.Writer.{cellBytes}
 use Rattle.lemmas.specs.Stores.{PutBefore}
 use Rattle.lemmas.proofs.Stores.{put-before, before-then}
 use Rattle.holdfile.specs.Internal.{slack, bucketBytesAt}
-use Rattle.holdfile.proofs.Writing.{cell-length, bucket-length}
+use Rattle.file_form.proofs.Sizes.{size-laws}
 use Rattle.holdfile.proofs.put_bucket.Statement.{statement}
 use Rattle.holdfile.proofs.put_bucket.Tie as tie
 
@@ -43,7 +43,7 @@ room : (c : tie.Start)
 room c =
     let t = c .args .table .now in
     let i = c .args .i in
-    omega (arith, c .pre .1, bucket-length (getD t i 0) (getD t (i + 1) 0) (getD t (i + 2) 0) (getD t (i + 3) 0))
+    omega (arith, c .pre .1, size-laws .bucket (getD t i 0) (getD t (i + 1) 0) (getD t (i + 2) 0) (getD t (i + 3) 0))
 
 -- what is added up
 size : (c : tie.After-part-size4)
@@ -54,11 +54,11 @@ size c =
     let i = start (read c) .args .i in
     omega (
       arith,
-      bucket-length (getD t i 0) (getD t (i + 1) 0) (getD t (i + 2) 0) (getD t (i + 3) 0),
-      cell-length (getD t i 0),
-      cell-length (getD t (i + 1) 0),
-      cell-length (getD t (i + 2) 0),
-      cell-length (getD t (i + 3) 0),
+      size-laws .bucket (getD t i 0) (getD t (i + 1) 0) (getD t (i + 2) 0) (getD t (i + 3) 0),
+      size-laws .cell (getD t i 0),
+      size-laws .cell (getD t (i + 1) 0),
+      size-laws .cell (getD t (i + 2) 0),
+      size-laws .cell (getD t (i + 3) 0),
       c .before .before .before .part-size .ensures .0,
       c .before .before .part-size2 .ensures .0,
       c .before .part-size3 .ensures .0,

@@ -1,5 +1,4 @@
 use Prim.Native.Nat.{ℕ, _/_, _<_}
-use borrow.Author.Needs.{needs}
 use lib.Bits.{bitXor}
 use mathlib.Core.List.{[], _∷_}
 use mathlib.Core.Path.{_≡_, sym, ap, subst, _∙_}

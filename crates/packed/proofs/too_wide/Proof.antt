@@ -3,11 +3,11 @@ use borrow.Author.Needs.{needs}
 use borrow.Author.Tests.{lt-leb}
 use lib.Dec.{leb}
 use lib.ListN.{length, drop}
-use lib.Pow.{pow-pos, shl-exact}
+use lib.Pow.{pow-pos}
 use mathlib.Core.Bool.{Bool, _||_}
 use mathlib.Core.Path.{_≡_, sym, ap, _∙_}
-use native.Mathlib.Nat.{one-mul}
 use native.Mathlib.Omega.{arith}
+use Rattle.lemmas.proofs.Powers.{one-shifted}
 use Rattle.calls.specs.WrittenForms.{anyFrom}
 use Rattle.packed.proofs.Buckets.{any-turn, any-end}
 use Rattle.packed.proofs.too_wide.Statement.{statement}
@@ -36,7 +36,7 @@ returns c =
     let l = c .before in
     let s = l .before .before in
     let n = 2 ^ s .args .w in
-    let shifted : 1 * n % 2 ^ 32 ≡ n = shl-exact {a = 1} 1 (s .args .w) 32 (omega arith) (omega arith) ∙ one-mul n in
+    let shifted : 1 * n % 2 ^ 32 ≡ n = one-shifted (s .args .w) 32 (omega arith) in
     rw shifted (sym (any-end n (s .args .table .now) (l .loop .i) (l .loop .top) (c .loop-test .left)) ∙ l .loop .inv .2)
 
 pub too-wide-spec : {M : Type 1} → statement M

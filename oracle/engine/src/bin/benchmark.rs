@@ -50,6 +50,16 @@ impl Side {
     }
 
     #[inline(never)]
+    fn forecast(self, s: &Settings, cells: &[u16], scratch: &mut [u32], tag: &[u8]) -> i64 {
+        match self {
+            Side::Engine => ENGINE.forecast(s, cells, scratch, tag),
+            Side::Other | Side::BranchFree | Side::Fast => {
+                signed(table::forecast(*s, cells, scratch, tag), i64::from)
+            }
+        }
+    }
+
+    #[inline(never)]
     fn lookup(self, s: &Settings, cells: &[u16], tag: &[u8]) -> i64 {
         match self {
             Side::Engine => ENGINE.lookup(s, cells, tag),
@@ -64,6 +74,16 @@ impl Side {
             Side::Engine => ENGINE.release(s, cells, tag),
             Side::Other | Side::BranchFree | Side::Fast => {
                 signed(table::release(*s, cells, tag), i64::from)
+            }
+        }
+    }
+
+    #[inline(never)]
+    fn file_length(self, s: &Settings, cells: &[u16]) -> i64 {
+        match self {
+            Side::Engine => ENGINE.file_length(s, cells),
+            Side::Other | Side::BranchFree | Side::Fast => {
+                signed(holdfile::file_length(*s, cells), |n| n as i64)
             }
         }
     }
@@ -230,7 +250,16 @@ fn table_rows(name: &str, s: &Settings) {
         &format!("{name}, hold, 95 % to the first 9"),
         holds(s, 0.95, 1.5, &list),
     );
-    let (cells, _, held) = filled(s, 0.95, &list);
+    let (cells, mut scratch, held) = filled(s, 0.95, &list);
+    let forecasts = measure(|side| {
+        let nanos = timed(|| {
+            for tag in &others {
+                used(side.forecast(s, &cells, &mut scratch, tag));
+            }
+        });
+        nanos / others.len() as f64
+    });
+    time(&format!("{name}, forecast, at 95 %"), forecasts);
     // Held tags in the order in which they were held, and in one that has nothing to do with it.
     let in_order = &list[..held.min(100_000)];
     let mut mixed = list[..held].to_vec();
@@ -294,6 +323,8 @@ fn format_rows(s: &Settings, share: f64) {
     file_rows(&format!("hold file, write, {at}"), size, |side| {
         side.file_write(s, &cells, &mut out)
     });
+    let told = measure(|side| timed(|| used(side.file_length(s, &cells))));
+    speed(&format!("hold file, length, {at}"), size, told);
     let mut table = cells.clone();
     file_rows(&format!("hold file, read, {at}"), size, |side| {
         side.file_read(&file, &mut table)

@@ -15,25 +15,25 @@ use Rattle.table.specs.Internal.{placeIs}
 use Rattle.calls.specs.Cells.{cell}
 
 abbrev Inv-other : tie.InvT-other
-Inv-other s table scratch₀ roots m head tail₀ answer₀ b c n buckets k₀ scratch tail answer k =
-    AtOther s table roots head c (take n buckets) (state scratch₀ tail₀ answer₀) k₀ (state scratch tail answer) k
+Inv-other s table scratch₀ roots m head tail₀ b c n buckets k₀ scratch tail k =
+    AtOther s table roots head c (take n buckets) (state scratch₀ tail₀) k₀ (state scratch tail) k
 
 abbrev μ-other : tie.MeasureT-other
-μ-other s table scratch₀ roots m head tail₀ answer₀ b c n buckets k₀ scratch tail answer k = n - k
+μ-other s table scratch₀ roots m head tail₀ b c n buckets k₀ scratch tail k = n - k
 
 abbrev Inv-cell : tie.InvT-cell
-Inv-cell s table scratch₀ roots m head tail₀ answer₀ b c₀ scratch tail answer c =
-    AtCell s table roots head (state scratch₀ tail₀ answer₀) c₀ (state scratch tail answer) c
+Inv-cell s table scratch₀ roots m head tail₀ b c₀ scratch tail c =
+    AtCell s table roots head (state scratch₀ tail₀) c₀ (state scratch tail) c
 
 abbrev μ-cell : tie.MeasureT-cell
-μ-cell s table scratch₀ roots m head tail₀ answer₀ b c₀ scratch tail answer c = 4 - c
+μ-cell s table scratch₀ roots m head tail₀ b c₀ scratch tail c = 4 - c
 
 abbrev Inv-queue : tie.InvT-queue
-Inv-queue s table scratch₀ roots m head₀ tail₀ answer₀ scratch head tail answer =
-    AtQueue s table roots (state scratch₀ tail₀ answer₀) head₀ (state scratch tail answer) head
+Inv-queue s table scratch₀ roots m head₀ tail₀ scratch head tail =
+    AtQueue s table roots (state scratch₀ tail₀) head₀ (state scratch tail) head
 
 abbrev μ-queue : tie.MeasureT-queue
-μ-queue s table scratch₀ roots m head₀ tail₀ answer₀ scratch head tail answer = s .buckets - head
+μ-queue s table scratch₀ roots m head₀ tail₀ scratch head tail = s .buckets - head
 
 -- at a cell, the list has the candidates of its entry
 placing : (c : tie.After-candidates Inv-other μ-other Inv-cell μ-cell Inv-queue μ-queue)
@@ -75,7 +75,7 @@ below c =
     laws _ (K .pass .settings) .below _ _ (c .wide2 .result) (K .home-in) (rw (listed n) at (next-among _ (c .before .before .before .other .k) (c .wide2 .result) (next c)))
 
 queue-holds : tie.Need-queue-holds Inv-other μ-other Inv-cell μ-cell Inv-queue μ-queue
-queue-holds c = record { len = refl; sparse = c .before .before .before .pre .1 .0; order = omega arith; rooted = omega arith; kept = refl; same = refl }
+queue-holds c = record { len = refl; sparse = c .before .before .before .pre .1 .0; order = omega arith; rooted = omega arith; same = refl }
 
 bucket-at-requires :
     tie.Need-bucket-at-requires Inv-other μ-other Inv-cell μ-cell Inv-queue μ-queue
@@ -120,8 +120,8 @@ visit-requires c κs =
     let order : q .queue .head < o .other .tail = omega (arith, o .other .inv .since .order, l .cell .inv .since .order, l .before .before .before .queue-test .taken) in
     (o .other .inv .since .sparse, (below c, omega arith, omega (arith, n .before .before .before .cell-test .taken), omega (arith, q .before .before .before .before .pre .0 .size)))
 
-sub-t36 : tie.Need-sub-t36 Inv-other μ-other Inv-cell μ-cell Inv-queue μ-queue
-sub-t36 c =
+sub-t35 : tie.Need-sub-t35 Inv-other μ-other Inv-cell μ-cell Inv-queue μ-queue
+sub-t35 c =
     let v = c .before .before .before .before .before in
     let o = v .before .before .before .before in
     let l = o .before .before .before .before .before .before in
@@ -178,12 +178,6 @@ queue-again c =
 
 returns : tie.Need-returns Inv-other μ-other Inv-cell μ-cell Inv-queue μ-queue
 returns c =
-    let q = c .before in
-    let a = q .before .before .before .before in
-    queue-ends _ _ _ (a .pre .1 .1) (q .queue .inv) (c .queue-test .left) refl
-
-returns-2 : tie.Need-returns-2 Inv-other μ-other Inv-cell μ-cell Inv-queue μ-queue
-returns-2 c =
     let v = c .before .before .before .before .before in
     let o = v .before .before .before .before in
     let n = o .before .before in
@@ -193,6 +187,12 @@ returns-2 c =
     let a = q .before .before .before .before in
     ends-found _ _ _ (a .pre .1 .1) (laws _ (a .pre .0 .settings)) (q .queue .inv) (b .before .before .queue-test .taken) (l .cell .inv) (omega (arith, n .before .before .before .cell-test .taken))
     (b .bucket-at .result) (b .bucket-at .ensures .1) (listed n) (o .other .inv) (next (v .before)) (v .visit .ensures) (c .before .place .given .0 .0) (sym (ap placeIs (c .before .place .given .1)))
+
+returns-2 : tie.Need-returns-2 Inv-other μ-other Inv-cell μ-cell Inv-queue μ-queue
+returns-2 c =
+    let q = c .before in
+    let a = q .before .before .before .before in
+    queue-ends _ _ _ (a .pre .1 .1) (q .queue .inv) (c .queue-test .left)
 
 pub find-path-spec : {M : Type 1} → statement M
 find-path-spec =
@@ -221,7 +221,9 @@ find-path-spec =
     (λ c κs. search needs)
     visit-requires
     (λ c. search needs)
-    sub-t36
+    sub-t35
+    (λ c. search needs)
+    returns
     (λ c. search needs)
     add-k
     other-less
@@ -232,7 +234,5 @@ find-path-spec =
     add-head
     queue-less
     queue-again
-    (λ c. search needs)
-    returns
     (λ c. search needs)
     returns-2)

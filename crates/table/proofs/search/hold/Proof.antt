@@ -5,7 +5,7 @@ use Rattle.index.specs.Answers.{tagEntryIs}
 use Rattle.calls.specs.Calls.{Sound}
 use Rattle.table.proofs.Guards.{home-inside}
 use Rattle.calls.proofs.Laws.{table-check-laws}
-use Rattle.table.proofs.Placing.{hold-by-table, hold-by-scratch, hold-by-tag, hold-placed}
+use Rattle.table.proofs.Placing.{hold-refused, by-table, by-scratch, by-tag, hold-made}
 use Rattle.table.proofs.search.hold.Statement.{statement}
 use Rattle.table.proofs.search.hold.Tie as tie
 
@@ -13,17 +13,25 @@ passes : (c : tie.Else1) → let a = c .before .before .before .before .before .
 passes c = table-check-laws _ _ .passed (c .before .table-refusal .ensures) (c .if1 .left)
 
 returns : tie.Need-returns
-returns c = hold-by-table _ _ _ _ (c .before .table-refusal .ensures) (c .if1 .taken)
+returns c =
+    let r = c .before in
+    let a = r .before .before .before .before .before .args in
+    hold-refused _ _ _ _ (by-table (a .s) (a .table .now) (a .scratch .now) (a .tag .now) (r .table-refusal .ensures) (c .if1 .taken))
 
 returns-2 : tie.Need-returns-2
-returns-2 c = hold-by-scratch _ _ _ _ (passes (c .before .before)) (omega (arith, c .if2 .taken))
+returns-2 c =
+    let e = c .before .before in
+    let a = e .before .before .before .before .before .before .args in
+    hold-refused _ _ _ _ (by-scratch (a .s) (a .table .now) (a .scratch .now) (a .tag .now) (passes e) (omega (arith, c .if2 .taken)))
 
 returns-3 : tie.Need-returns-3
 returns-3 c =
     let k = c .before in
     let t = k .before .before in
     let u = t .before in
-    hold-by-tag _ _ _ _ (passes (u .before .before)) (u .if2 .left) (sym (ap tagEntryIs (k .k .given .1)) ∙ t .entry-of .ensures)
+    let e = u .before .before in
+    let a = e .before .before .before .before .before .before .args in
+    hold-refused _ _ _ _ (by-tag (a .s) (a .table .now) (a .scratch .now) (a .tag .now) (passes e) (u .if2 .left) (sym (ap tagEntryIs (k .k .given .1)) ∙ t .entry-of .ensures))
 
 insert-requires : tie.Need-insert-requires
 insert-requires c κs =
@@ -39,7 +47,7 @@ returns-4 c =
     let k = n .before .before .before .before in
     let t = k .before .before in
     let u = t .before in
-    hold-placed _ _ _ _ (passes (u .before .before)) (u .if2 .left) _ _ (sym (ap tagEntryIs (k .p .given .1)) ∙ t .entry-of .ensures) (n .insert .ensures)
+    hold-made _ _ _ _ (passes (u .before .before)) (u .if2 .left) _ _ (sym (ap tagEntryIs (k .p .given .1)) ∙ t .entry-of .ensures) (n .insert .ensures)
 
 pub hold-spec : {M : Type 1} → statement M
 hold-spec =

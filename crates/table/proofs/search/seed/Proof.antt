@@ -11,7 +11,7 @@ use Rattle.table.proofs.Scratch.{sparse-room}
 use Rattle.table.proofs.Walks.{AtSeed, seed-starts, seed-among, seed-skips, seed-queues, seed-ends}
 use Rattle.table.proofs.search.seed.Statement.{statement}
 use Rattle.table.proofs.search.seed.Tie as tie
-use Rattle.table.specs.Internal.{queueIn}
+use Rattle.table.specs.Scratch.{queueIn}
 use Rattle.calls.specs.Search.{marked, rootsFrom}
 
 abbrev Inv-loop : tie.InvT-loop

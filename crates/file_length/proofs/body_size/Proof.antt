@@ -1,4 +1,4 @@
-use Prim.Native.Nat.{ℕ, _+_, _-_, _*_, _^_, _≤_, _<_}
+use Prim.Native.Nat.{ℕ, _+_, _-_, _^_, _≤_, _<_}
 use borrow.Author.Needs.{needs}
 use borrow.Author.Tests.{le-leb, lt-leb}
 use lib.Dec.{leb}
@@ -9,16 +9,18 @@ use mathlib.Core.List.{List}
 use mathlib.Core.Path.{_≡_, sym, ap, _∙_}
 use native.Mathlib.Omega.{arith}
 use Rattle.calls.specs.WrittenForms.{anyFrom}
+use Rattle.lemmas.proofs.Powers.{one-shifted}
+use Rattle.calls.specs.Cells.{filledCount}
 use Rattle.file_form.specs.Writer.{filled}
-use Rattle.holdfile.proofs.Reading.{shifted}
-use Rattle.holdfile.proofs.Writing.{counted, printSizes, sizes-step, sizes-end, any-turn, any-end, body-length}
-use Rattle.holdfile.proofs.body_size.Statement.{statement}
-use Rattle.holdfile.proofs.body_size.Tie as tie
+use Rattle.file_form.proofs.Sizes.{size-laws}
+use Rattle.file_length.proofs.Passes.{bit-small, count-turn, count-end, any-turn, any-end}
+use Rattle.file_length.proofs.body_size.Statement.{statement}
+use Rattle.file_length.proofs.body_size.Tie as tie
 
 -- the cells before i: how many are filled, and the largest
 record Seen (w : ℕ) (t : List ℕ) (top n i : ℕ) : Type 0 where
   pub upto : i ≤ length t
-  pub sizes : 2 * n + printSizes (drop i t) ≡ printSizes t
+  pub counted : n + filledCount (drop i t) ≡ filledCount t
   pub any : (leb (2 ^ w) top || anyFrom (2 ^ w) (drop i t)) ≡ anyFrom (2 ^ w) t
   pub few : n ≤ i
 
@@ -49,7 +51,7 @@ loop-holds c =
     let w = c .before .args .width in
     record {
       upto = omega arith;
-      sizes = omega arith;
+      counted = omega arith;
       any = ap (λ (b : Bool). b || anyFrom (2 ^ w) (c .before .args .table .now)) (lt-leb (2 ^ w) 0 (pow-pos w));
       few = omega arith;
     }
@@ -57,7 +59,7 @@ loop-holds c =
 loop2-holds : tie.Need-loop2-holds Inv-loop2 μ-loop2 Inv-loop μ-loop
 loop2-holds c =
     let S = c .before .before .loop .inv in
-    (record { upto = S .upto; sizes = omega (arith, S .sizes); any = S .any; few = omega (arith, S .few) }, omega (arith, c .block-end .ensures .0), omega arith)
+    (record { upto = S .upto; counted = omega (arith, S .counted); any = S .any; few = omega (arith, S .few) }, omega (arith, c .block-end .ensures .0), omega arith)
 
 inside : (c : tie.In-loop2 Inv-loop2 μ-loop2 Inv-loop μ-loop) → c .before .loop2 .i < length (start (outer (c .before)) .args .table .now)
 inside c = omega (arith, c .loop2-test .taken, block (c .before) .block-end .ensures .1)
@@ -70,7 +72,7 @@ add-few c =
     let k = c .before .before in
     let l = k .before in
     let v = getD (start (outer l) .args .table .now) (l .loop2 .i) 0 in
-    omega (arith, counted (filled v) .0, l .loop2 .inv .2, k .loop2-test .taken, block l .block-end .ensures .2)
+    omega (arith, bit-small (filled v), l .loop2 .inv .2, k .loop2-test .taken, block l .block-end .ensures .2)
 
 loop2-again : tie.Need-loop2-again Inv-loop2 μ-loop2 Inv-loop μ-loop
 loop2-again c =
@@ -79,16 +81,16 @@ loop2-again c =
     let s = start (outer (k .before)) in
     let t = s .args .table .now in
     let g = inside k in
-    let bit = counted (filled (getD t (l .i) 0)) in
+    let bit = bit-small (filled (getD t (l .i) 0)) in
     let S = l .inv .0 in (
       record {
         upto = omega (arith, g);
-        sizes = omega (arith, sizes-step t (l .i) g, bit .1, S .sizes);
+        counted = omega (arith, count-turn t (l .i) g, S .counted);
         any = any-turn t (l .i) (2 ^ s .args .width) (l .top) g (c .larger .ensures) ∙ S .any;
-        few = omega (arith, bit .0, S .few);
+        few = omega (arith, bit, S .few);
       },
       omega (arith, k .loop2-test .taken),
-      omega (arith, l .inv .2, bit .0),
+      omega (arith, l .inv .2, bit),
     )
 
 -- far below 2^64
@@ -112,7 +114,7 @@ returns c =
     let e = c .before .before .before in
     let s = start e in
     let w = s .args .width in
-    let h : 2 ^ w ≤ e .loop .top = omega (arith, shifted w (s .pre .0), c .before .wide .ensures, c .if1 .taken) in
+    let h : 2 ^ w ≤ e .loop .top = omega (arith, one-shifted w 32 (omega (arith, s .pre .0)), c .before .wide .ensures, c .if1 .taken) in
     sym (e .loop .inv .any) ∙ ap (λ (b : Bool). b || anyFrom (2 ^ w) (drop (e .loop .i) (s .args .table .now))) (le-leb (2 ^ w) (e .loop .top) h)
 
 returns-2 : tie.Need-returns-2 Inv-loop2 μ-loop2 Inv-loop μ-loop
@@ -122,10 +124,10 @@ returns-2 c =
     let t = s .args .table .now in
     let w = s .args .width in
     let l = e .loop in
-    let h : l .top < 2 ^ w = omega (arith, shifted w (s .pre .0), c .before .wide .ensures, c .if1 .left) in
+    let h : l .top < 2 ^ w = omega (arith, one-shifted w 32 (omega (arith, s .pre .0)), c .before .wide .ensures, c .if1 .left) in
     let done = c .before .before .loop-test .left in (
       sym (l .inv .any) ∙ ap (λ (b : Bool). b || anyFrom (2 ^ w) (drop (l .i) t)) (lt-leb (2 ^ w) (l .top) h) ∙ any-end t (l .i) (2 ^ w) done,
-      omega (arith, sizes-end t (l .i) done, body-length (s .args .buckets) t (s .pre .1), l .inv .sizes),
+      omega (arith, count-end t (l .i) done, size-laws .body (s .args .buckets) t (s .pre .1), l .inv .counted),
     )
 
 count-fits : tie.Need-mul-t19 Inv-loop2 μ-loop2 Inv-loop μ-loop

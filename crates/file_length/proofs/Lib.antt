@@ -1,0 +1,2 @@
+-- The pass over the cells, and what the call answers.
+pub mod Passes

@@ -1,0 +1,3 @@
+-- What the call answers, and the contract of the pass inside.
+pub mod Answers
+pub mod Internal

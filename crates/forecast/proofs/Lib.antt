@@ -1,0 +1,2 @@
+-- What is proved of forecasts.
+pub mod Foretold
