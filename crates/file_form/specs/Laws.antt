@@ -1,4 +1,4 @@
--- What the code uses of the definitions: the header, and how many bytes there are. `proofs/Laws.antt` proves it.
+-- What the code uses of the definitions: the header, and how many bytes there are. `proofs/Laws.antt` and `proofs/Sizes.antt` prove it.
 -- Assumes nothing.
 use mathlib.Core.Path.{_≡_}
 use mathlib.Core.Logic.{_≢_}
