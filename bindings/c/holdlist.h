@@ -223,8 +223,9 @@ int64_t holdlist_release(const holdlist_settings *settings, uint16_t *table, siz
                          size_t tag_count);
 
 /*
- * Holds a tag. Answers how many other entries moved to make room, 0 for none; a tag that is held twice has two
- * entries. Writes the table, and scratch as it needs. Refuses with 1 to 4, 5, 6, 7, 9; at 9 the table is as before.
+ * Holds a tag. Answers how many other entries moved to make room, 0 for none, and no fewer moves of any entries would
+ * have made it; a tag that is held twice has two entries. Writes the table, and scratch as it needs. Refuses with 1 to
+ * 4, 5, 6, 7, 9; at 9 the table is as before.
  * Tags that spread well fill nine tenths of a large list and more before the first 9. Short tags that differ in
  * their last bytes alone, such as "tag 1" and "tag 2", may not: the hash spreads a byte by the bytes after it. Below
  * width 14 many of these share a fingerprint too, so that more of them read held by chance.

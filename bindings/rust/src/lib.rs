@@ -91,7 +91,8 @@ impl HoldList {
         }
     }
 
-    /// Holds a tag, and answers how many other entries moved to make room for it.
+    /// Holds a tag, and answers how many other entries moved to make room for it. No fewer moves of
+    /// any entries would have made it.
     ///
     /// Tags that spread well fill nine tenths of a large list and more before one is refused.
     /// Short tags that differ in their last bytes alone, such as "tag 1" and "tag 2", may not: the

@@ -9,7 +9,7 @@ use native.Mathlib.Omega.{arith}
 use lib.ListN.{length, set, take, length-set}
 use Rattle.lemmas.specs.Sums.{total}
 use Rattle.refusals.specs.Checks.{firstMet}
-use Rattle.refusals.specs.Outcomes.{given, Done, done, keeping}
+use Rattle.refusals.specs.Outcomes.{given, done, keeping}
 use Rattle.index.specs.Settings.{settingsRefusal}
 use Rattle.index.specs.Hash.{fingerprint, home}
 use Rattle.index.specs.Candidates.{candidates, Class, classAt, classOf}
@@ -18,7 +18,7 @@ use Rattle.index.specs.declared.Settings.{Settings}
 use Rattle.index.proofs.Laws.{laws}
 use Rattle.calls.specs.Cells.{cell, lowestEmpty, inFirst}
 use Rattle.calls.specs.Search.{Ending, found, exhausted, searchFor, relocate}
-use Rattle.calls.specs.Calls.{Said, accepted, copies, taggedChecks, lookup, lookupIn, placed, holdIn}
+use Rattle.calls.specs.Calls.{accepted, copies, taggedChecks, lookup, lookupIn, placed, holdIn}
 use Rattle.calls.specs.Multiset.{count}
 use Rattle.calls.specs.Demand.{entries}
 use Rattle.calls.specs.Interrupted.{Write, afterWrites, moves, writesBy, holdWrites, Interrupted}
@@ -27,7 +27,7 @@ use Rattle.calls.proofs.Cells.{empty-finds, first-finds}
 use Rattle.calls.proofs.Classes.{one-at, count-total}
 use Rattle.calls.proofs.Queue.{Chain, Ends, search-ends}
 use Rattle.calls.proofs.Weights.{weightAt, weight-empty, weight-same, total-set}
-use Rattle.calls.proofs.Moves.{chain-set, moved-cell, placed-total, relocated-total}
+use Rattle.calls.proofs.Moves.{accepted-by, chain-set, moved-cell, placed-total, relocated-total}
 use Rattle.calls.proofs.Model.{step-lookup}
 use Rattle.calls.proofs.Refusals.{tag-refusal}
 use Rattle.calls.proofs.Demand.{forget-copies}
@@ -102,12 +102,6 @@ module _ (s : Settings) (L : Laws s) where
 
     -- ── the whole hold ──
     module _ (n : p ≢ 0) (d : ℕ) (c′ : List ℕ) where
-      same-given : {x y : Done Said (List ℕ)} → given x ≡ given y → x ≡ y
-      same-given e = cc
-
-      same-moves : {i j : ℕ} → accepted i ≡ accepted j → i ≡ j
-      same-moves e = cc
-
       record Ended-as (ws : List Write) : Type 0 where
         pub all : length ws ≡ d + 1
         pub whole : afterWrites c ws ≡ c′
@@ -115,20 +109,20 @@ module _ (s : Settings) (L : Laws s) where
 
       ended-as : (o : Option ℕ) → Finds c 0 rs o → (r : Ending) → Ends s c rs r → placed c p o r ≡ given (done (accepted d) c′) → Ended-as (writesBy c p o r)
       ended-as (some i) f r g e =
-          let x = same-given e in
-          let a : set c i p ≡ c′ = ap (λ (y : Done Said (List ℕ)). y .leaves) x in
-          let m : 0 ≡ d = same-moves (ap (λ (y : Done Said (List ℕ)). y .says) x) in
-          record { all = omega arith; whole = a; gained = λ w. subst (λ (t : List ℕ). total w (entries s t) ≡ total w (classAt s p b ∷ entries s c)) a (placed-total s L c p b i n l size (f .0) (f .1) w) }
-      ended-as none f (found i m q) g e =
-          let x = same-given e in
-          let a : relocate c i (m .path) p ≡ c′ = ap (λ (y : Done Said (List ℕ)). y .leaves) x in
-          let t : length (m .path) ≡ d = same-moves (ap (λ (y : Done Said (List ℕ)). y .says) x) in
+          let a = accepted-by c p d c′ (some i) r e in
           record {
-            all = omega (arith, moves-length c i (m .path) p);
-            whole = moves-whole c i (m .path) p ∙ a;
-            gained = λ w. subst (λ (y : List ℕ). total w (entries s y) ≡ total w (classAt s p b ∷ entries s c)) a (relocated-total s L c p b i m q n l size g w);
+            all = omega (arith, a .0);
+            whole = a .1;
+            gained = λ w. subst (λ (t : List ℕ). total w (entries s t) ≡ total w (classAt s p b ∷ entries s c)) (a .1) (placed-total s L c p b i n l size (f .0) (f .1) w);
           }
-      ended-as none f (exhausted q) g e = absurd (let z : _≡_ {A = ℕ} 0 1 = cc in omega arith)
+      ended-as none f (found i m q) g e =
+          let a = accepted-by c p d c′ none (found i m q) e in
+          record {
+            all = omega (arith, moves-length c i (m .path) p, a .0);
+            whole = moves-whole c i (m .path) p ∙ a .1;
+            gained = λ w. subst (λ (t : List ℕ). total w (entries s t) ≡ total w (classAt s p b ∷ entries s c)) (a .1) (relocated-total s L c p b i m q n l size g w);
+          }
+      ended-as none f (exhausted q) g e = absurd (accepted-by c p d c′ none (exhausted q) e)
 
       pub interrupted-by : holdIn s c p b ≡ given (done (accepted d) c′) → Interrupted s c p b d c′
       unfolding holdIn holdWrites

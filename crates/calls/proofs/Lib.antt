@@ -4,6 +4,7 @@ pub mod Copies
 pub mod CheckOrder
 pub mod Classes
 pub mod Nodes
+pub mod Levels
 pub mod Queue
 pub mod Weights
 pub mod Moves
@@ -13,5 +14,6 @@ pub mod Model
 pub mod Demand
 pub mod Laws
 pub mod Interrupted
+pub mod FewestMoves
 pub mod Writers
 pub mod Repeats

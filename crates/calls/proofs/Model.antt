@@ -1,10 +1,10 @@
 -- A table and a model that agree: after each call, and after each list of calls, they have answered alike and agree again.
 -- Assumes nothing.
-use mathlib.Core.Path.{_≡_, refl, sym, ap, ap₂, _∙_, subst}
+use mathlib.Core.Path.{_≡_, refl, sym, ap, ap₂, _∙_}
 use mathlib.Core.Logic.{_≢_}
 use mathlib.Core.Option.{Option, none, some}
 use mathlib.Core.List.{List, [], _∷_, map}
-use Prim.Native.Nat.{ℕ, _+_, _*_, _/_, _≤_, _<_}
+use Prim.Native.Nat.{ℕ, _+_, _/_, _≤_, _<_}
 use native.Mathlib.Omega.{arith}
 use native.Mathlib.Decide.{decLe}
 use lib.ListN.{length, set, length-set}
@@ -56,9 +56,9 @@ module _ (s : Settings) (L : Laws s) (c : List ℕ) (E : List Class) (A : Agree 
       where
         go : (o : Option ℕ) → Finds c 0 (candidates s p b) o → (r : Ending) → Ends s c (candidates s p b) r → (d : Dec (Assignable (k ∷ E)))
             → Step s c (keeping c (placed c p o r)) (keeping E (toHold k E d))
-        go (some i) f r e d = gains (set c i p) 0 (length-set c i p) (placed-total s L c p b i n l (A .size) (f .0) (f .1)) d
+        go (some i) f r e d = gains (set c i p) _ (length-set c i p) (placed-total s L c p b i n l (A .size) (f .0) (f .1)) d
         go none f (found i m q) e d =
-            gains (relocate c i (m .path) p) (length (m .path)) (length-relocate c i (m .path) p) (relocated-total s L c p b i m q n l (A .size) e) d
+            gains (relocate c i (m .path) p) _ (length-relocate c i (m .path) p) (relocated-total s L c p b i m q n l (A .size) e) d
         go none f (exhausted q) e (yes a) = absurd (not-assignable s L c p b l f q e E (A .same) a)
         go none f (exhausted q) e (no a) = stays (refused 9) refl
 

@@ -1,5 +1,6 @@
 -- What holds of the search's queue from the roots to the end: its buckets are below M, none stands in it twice, each was reached along
--- a path of taken buckets, and all candidates of the entries in taken buckets are queued or about to be looked at.
+-- a path of taken buckets, all candidates of the entries in taken buckets are queued or about to be looked at, and the nearer buckets come
+-- first.
 -- Assumes nothing.
 use mathlib.Core.Path.{_≡_, refl, sym, _∙_, subst}
 use mathlib.Core.Logic.{inl, inr}
@@ -22,6 +23,7 @@ use Rattle.calls.specs.Laws.{Finds}
 use Rattle.calls.proofs.Cells.{empty-finds, cells-of, in-cells}
 use Rattle.calls.proofs.Classes.{other-candidate}
 use Rattle.calls.specs.Laws.{bucketsOf, Distinct}
+use Rattle.calls.proofs.Levels.{Level, start-level, skip-level, queue-level, turn-level, Distances, found-distances}
 use Rattle.calls.proofs.Nodes.{bucketsOn, taken, All, Full, rootNodes, all-map, all-append, all-at, occ-queue, marked-true, marked-false, taken-append, taken-suc, taken-le, at-queued, occ-leads, all-leads, distinct-none, distinct-more, distinct-short}
 
 -- ── the invariant ──
@@ -49,6 +51,7 @@ module _ (s : Settings) (c rs : List ℕ) where
     pub edges : All (Edge (taken h q)) ns
     pub rooted : (x : ℕ) → x among rs → 1 ≤ occ x (bucketsOf q) + occ x (bucketsOf ns)
     pub closed : (i x : ℕ) → (i / 4) among taken h q → x among candidates s (cell c i) (i / 4) → 1 ≤ occ x (bucketsOf q) + occ x (bucketsOf ns)
+    pub level : Level s c rs h q ns
 
   -- an empty cell i of the bucket of n, which is new to the queue q
   pub record Ended (i : ℕ) (n : Node) (q : List Node) : Type 0 where
@@ -58,6 +61,10 @@ module _ (s : Settings) (c rs : List ℕ) where
     pub chain : Chain (n .bucket) (n .path)
     pub queue : Distinct (s .buckets) q
     pub unmarked : marked (n .bucket) q ≡ false
+    -- its path is of queued buckets, which are full if the roots are, and no bucket with an empty cell is nearer
+    pub on-queue : (y : ℕ) → y among bucketsOn (n .path) → y among bucketsOf q
+    pub full : Full c rs → Full c (bucketsOf q)
+    pub distances : Full c rs → Distances s c rs (length (n .path))
 
   abbrev pub Ends : Ending → Type 0
   Ends (found i n q) = Ended i n q
@@ -73,6 +80,7 @@ module _ (s : Settings) (c rs : List ℕ) where
     edges = v .edges .1;
     rooted = λ y k. old y (v .rooted y k);
     closed = λ i y k g. old y (v .closed i y k g);
+    level = skip-level s c rs h q n ns (v .level);
   }
     where
       old : (y : ℕ) → 1 ≤ occ y (bucketsOf q) + occ y (bucketsOf (n ∷ ns)) → 1 ≤ occ y (bucketsOf q) + occ y (bucketsOf ns)
@@ -88,6 +96,7 @@ module _ (s : Settings) (c rs : List ℕ) where
     edges = rw t (v .edges .1);
     rooted = λ y k. omega (arith, m y, v .rooted y k);
     closed = λ i y k g. omega (arith, m y, v .closed i y (rw t at k) g);
+    level = queue-level s c rs h q n ns (v .size) (v .level);
   }
     where
       z : occ (n .bucket) (bucketsOf q) ≡ 0
@@ -111,6 +120,9 @@ module _ (s : Settings) (c rs : List ℕ) where
         chain = v .edges .0 .1 (omega (arith, taken-le h q (n .bucket)));
         queue = v .queue;
         unmarked = e;
+        on-queue = λ y k. omega (arith, v .edges .0 .2 y k, taken-le h q y);
+        full = v .full;
+        distances = λ r. found-distances s c rs h q n ns (v .level) (v .full r);
       }
 
   -- all the nodes are looked at
@@ -172,6 +184,7 @@ module _ (s : Settings) (L : Laws s) (c : List ℕ) where
         | inl e ↦ taken-one i x e g
         | inr z ↦ omega (arith, v .closed i x (omega (arith, grown (i / 4))) g)
       ];
+      level = turn-level s c rs h q l (λ x k. omega (arith, v .rooted x k)) (λ i x k g. omega (arith, v .closed i x k g)) (v .level);
     }
       where
         n : Node
@@ -233,6 +246,7 @@ module _ (s : Settings) (L : Laws s) (c : List ℕ) where
     edges = all-leads (Edge s c (candidates s p b) []) [] (candidates s p b) (λ x k. (L .below p b x l k, λ z. k, λ y m. absurd (omega arith)));
     rooted = λ x k. omega (arith, occ-leads x [] (candidates s p b));
     closed = λ i x k g. absurd (omega arith);
+    level = start-level s c (candidates s p b) (candidates s p b);
   }
 
   pub queue-at-start : (p b : ℕ) → b < s .buckets → Inv s c (candidates s p b) 0 (rootsFrom (candidates s p b) []) []

@@ -10,6 +10,7 @@ pub mod Model
 pub mod Demand
 pub mod CheckOrder
 pub mod Interrupted
+pub mod FewestMoves
 pub mod WrittenForms
 pub mod Laws
 pub mod Repeats
