@@ -25,8 +25,9 @@ use Rattle.calls.specs.Calls.{Said, accepted, Act, Result, tableChecks, 
 use Rattle.calls.specs.FewestMoves.{Move, moved, Allowed, afterMoves, AllAllowed, MakesRoom, FewestMoves, HoldsMoveFewest}
 use Rattle.calls.specs.Laws.{Finds}
 use Rattle.calls.proofs.Cells.{empty-finds, first-finds}
+use Rattle.calls.proofs.Interrupted.{accepted-by}
 use Rattle.calls.proofs.Levels.{Distances}
-use Rattle.calls.proofs.Moves.{chain-set, accepted-by}
+use Rattle.calls.proofs.Moves.{chain-set}
 use Rattle.calls.proofs.Nodes.{bucketsOn, Full}
 use Rattle.calls.proofs.Queue.{Chain, Ends, search-ends}
 use Rattle.calls.proofs.Refusals.{table-check-laws}

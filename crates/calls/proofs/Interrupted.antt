@@ -9,7 +9,7 @@ use native.Mathlib.Omega.{arith}
 use lib.ListN.{length, set, take, length-set}
 use Rattle.lemmas.specs.Sums.{total}
 use Rattle.refusals.specs.Checks.{firstMet}
-use Rattle.refusals.specs.Outcomes.{given, done, keeping}
+use Rattle.refusals.specs.Outcomes.{given, Done, done, keeping}
 use Rattle.index.specs.Settings.{settingsRefusal}
 use Rattle.index.specs.Hash.{fingerprint, home}
 use Rattle.index.specs.Candidates.{candidates, Class, classAt, classOf}
@@ -18,7 +18,7 @@ use Rattle.index.specs.declared.Settings.{Settings}
 use Rattle.index.proofs.Laws.{laws}
 use Rattle.calls.specs.Cells.{cell, lowestEmpty, inFirst}
 use Rattle.calls.specs.Search.{Ending, found, exhausted, searchFor, relocate}
-use Rattle.calls.specs.Calls.{accepted, copies, taggedChecks, lookup, lookupIn, placed, holdIn}
+use Rattle.calls.specs.Calls.{Said, accepted, copies, taggedChecks, lookup, lookupIn, placed, holdIn}
 use Rattle.calls.specs.Multiset.{count}
 use Rattle.calls.specs.Demand.{entries}
 use Rattle.calls.specs.Interrupted.{Write, afterWrites, moves, writesBy, holdWrites, Interrupted}
@@ -27,10 +27,30 @@ use Rattle.calls.proofs.Cells.{empty-finds, first-finds}
 use Rattle.calls.proofs.Classes.{one-at, count-total}
 use Rattle.calls.proofs.Queue.{Chain, Ends, search-ends}
 use Rattle.calls.proofs.Weights.{weightAt, weight-empty, weight-same, total-set}
-use Rattle.calls.proofs.Moves.{accepted-by, chain-set, moved-cell, placed-total, relocated-total}
+use Rattle.calls.proofs.Moves.{chain-set, moved-cell, placed-total, relocated-total}
 use Rattle.calls.proofs.Model.{step-lookup}
 use Rattle.calls.proofs.Refusals.{tag-refusal}
 use Rattle.calls.proofs.Demand.{forget-copies}
+
+-- ── what an accepted hold tells: its moves, and what it left ──
+abbrev pub AcceptedBy : List ℕ → ℕ → ℕ → List ℕ → Option ℕ → Ending → Type 0
+AcceptedBy c p d c′ (some i) r = (0 ≡ d) × (set c i p ≡ c′)
+AcceptedBy c p d c′ none (found i n q) = (length (n .path) ≡ d) × (relocate c i (n .path) p ≡ c′)
+AcceptedBy c p d c′ none (exhausted q) = ⊥
+
+same-moves : {n m : ℕ} → accepted n ≡ accepted m → n ≡ m
+same-moves e = cc
+
+same-given : {x y : Done Said (List ℕ)} → given x ≡ given y → x ≡ y
+same-given e = cc
+
+same-end : {n m : ℕ} {l k : List ℕ} → given (done (accepted n) l) ≡ given (done (accepted m) k) → (n ≡ m) × (l ≡ k)
+same-end e = let x = same-given e in (same-moves (ap (λ (y : Done Said (List ℕ)). y .says) x), ap (λ (y : Done Said (List ℕ)). y .leaves) x)
+
+pub accepted-by : (c : List ℕ) (p d : ℕ) (c′ : List ℕ) (o : Option ℕ) (r : Ending) → placed c p o r ≡ given (done (accepted d) c′) → AcceptedBy c p d c′ o r
+accepted-by c p d c′ (some i) r e = same-end e
+accepted-by c p d c′ none (found i n q) e = let x = same-end e in (omega (arith, x .0), x .1)
+accepted-by c p d c′ none (exhausted q) e = absurd (let z : _≡_ {A = ℕ} 0 1 = cc in omega arith)
 
 -- ── the writes along a path lose no entry ──
 module _ (s : Settings) (L : Laws s) where

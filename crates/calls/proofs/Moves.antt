@@ -2,7 +2,6 @@
 -- Assumes nothing.
 use mathlib.Core.Path.{_≡_, sym, ap, _∙_}
 use mathlib.Core.Logic.{inl, inr, _≢_}
-use mathlib.Core.Option.{Option, none, some}
 use mathlib.Core.List.{List, [], _∷_}
 use Prim.Native.Nat.{ℕ, _+_, _*_, _/_, _<_}
 use native.Mathlib.Omega.{arith}
@@ -11,13 +10,11 @@ use lib.Seq.{getD-set-same, getD-set-other}
 use Rattle.lemmas.specs.Count.{occ, _among_}
 use Rattle.lemmas.specs.Sums.{total}
 use Rattle.lemmas.proofs.Count.{hit-cases, hit-of, hit-ne}
-use Rattle.refusals.specs.Outcomes.{given, Done, done}
 use Rattle.index.specs.Candidates.{candidates, Class, classAt}
 use Rattle.index.specs.Laws.{Laws}
 use Rattle.index.specs.declared.Settings.{Settings}
 use Rattle.calls.specs.Cells.{cell}
-use Rattle.calls.specs.Search.{Node, Ending, found, exhausted, relocate}
-use Rattle.calls.specs.Calls.{Said, accepted, placed}
+use Rattle.calls.specs.Search.{Node, relocate}
 use Rattle.calls.specs.Demand.{entries}
 use Rattle.calls.specs.Multiset.{Same}
 use Rattle.calls.proofs.Classes.{class-same}
@@ -35,26 +32,6 @@ moved-cell c i j l = elim (hit-cases j i) [
   | inl k ↦ rw k (getD-set-same c i (cell c i) 0 l)
   | inr z ↦ getD-set-other c i j (cell c j) 0 (hit-ne j i z)
 ]
-
--- what it means that a hold is accepted with d moves and leaves c′
-abbrev pub AcceptedBy : List ℕ → ℕ → ℕ → List ℕ → Option ℕ → Ending → Type 0
-AcceptedBy c p d c′ (some i) r = (0 ≡ d) × (set c i p ≡ c′)
-AcceptedBy c p d c′ none (found i n q) = (length (n .path) ≡ d) × (relocate c i (n .path) p ≡ c′)
-AcceptedBy c p d c′ none (exhausted q) = ⊥
-
-same-moves : {n m : ℕ} → accepted n ≡ accepted m → n ≡ m
-same-moves e = cc
-
-same-given : {x y : Done Said (List ℕ)} → given x ≡ given y → x ≡ y
-same-given e = cc
-
-same-end : {n m : ℕ} {l k : List ℕ} → given (done (accepted n) l) ≡ given (done (accepted m) k) → (n ≡ m) × (l ≡ k)
-same-end e = let x = same-given e in (same-moves (ap (λ (y : Done Said (List ℕ)). y .says) x), ap (λ (y : Done Said (List ℕ)). y .leaves) x)
-
-pub accepted-by : (c : List ℕ) (p d : ℕ) (c′ : List ℕ) (o : Option ℕ) (r : Ending) → placed c p o r ≡ given (done (accepted d) c′) → AcceptedBy c p d c′ o r
-accepted-by c p d c′ (some i) r e = same-end e
-accepted-by c p d c′ none (found i n q) e = let x = same-end e in (omega (arith, x .0), x .1)
-accepted-by c p d c′ none (exhausted q) e = absurd (let z : _≡_ {A = ℕ} 0 1 = cc in omega arith)
 
 module _ (s : Settings) (L : Laws s) where
   -- a cell outside the path's buckets is overwritten
