@@ -5,6 +5,10 @@
  *   gcc -std=c99 -Wall -Wextra -Werror -pedantic -O2 -Ibindings/c bindings/c/example.c \
  *       target/staticlib/libholdlist.a -o target/example
  *   target/example
+ *
+ * Against an installed copy, after ./install PREFIX, with PREFIX/lib/pkgconfig in PKG_CONFIG_PATH:
+ *
+ *   gcc -std=c99 -O2 bindings/c/example.c -o target/example $(pkg-config --cflags --libs holdlist)
  */
 #include <inttypes.h>
 #include <stdio.h>

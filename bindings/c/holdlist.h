@@ -1,9 +1,10 @@
 /*
  * The hold list for C: a cuckoo filter whose memory the caller lends.
  *
- * Link with target/staticlib/libholdlist.a, which `rt staticlib holdlist` makes. It needs memset and nothing else,
- * keeps no state between calls, never allocates, and may be called from several threads at once as long as no two of
- * them share a buffer that one of them writes.
+ * Link with target/staticlib/libholdlist.a, which `rt staticlib holdlist` makes, or with what `./install PREFIX` puts
+ * below a folder, where `pkg-config --cflags --libs holdlist` tells the rest. It needs memset and nothing else, keeps no
+ * state between calls, never allocates, and may be called from several threads at once as long as no two of them share
+ * a buffer that one of them writes.
  *
  * RESULTS. Every call answers an int64_t. 0 or more is the answer. Below 0 is minus the number of a refusal, one of
  * the names HOLDLIST_REFUSED_.. below, so that -7 means 7. A refused call has written nothing to the table, to out or
@@ -27,6 +28,11 @@
  * Since version 0.6 no mask of 0 or buckets - 1 passes under rule 2: of the four candidates two were the same as the
  * others. holdlist_file_convert makes a hold file of such a mask one of rule 0; a table or a packed form serves under
  * rule 0 as it is.
+ *
+ * TAGS AND FILES. A tag is its bytes: in another spelling, with other letters, blanks or an end of a line, it is another
+ * tag and reads clear. So bring tags into one form before they are held and before they are looked up. Tags that differ
+ * in their last bytes alone fill a list badly; written backwards they do not. Neither form of a saved list has a
+ * checksum: a file with one bit turned over may be the file of another list, and is then read as that.
  *
  * BUFFERS. A buffer is a pointer and a count of elements. It holds at least that many elements and is aligned as its
  * element type asks; a null pointer with count 0 is an empty buffer. A buffer that a call writes overlaps none of its
@@ -57,9 +63,9 @@ extern "C" {
 
 /* The version, that of the whole repository (its file VERSION). */
 #define HOLDLIST_VERSION_MAJOR 0
-#define HOLDLIST_VERSION_MINOR 7
+#define HOLDLIST_VERSION_MINOR 8
 #define HOLDLIST_VERSION_PATCH 0
-#define HOLDLIST_VERSION "0.7.0"
+#define HOLDLIST_VERSION "0.8.0"
 
 /* Settings, any numbers of which can be handed in. */
 typedef struct {
