@@ -22,29 +22,80 @@
 //! # Ok::<(), holdlist::Refusal>(())
 //! ```
 //!
+//! # Choosing settings
+//!
+//! [`Settings::ring_for`], [`Settings::plain_for`] and [`Settings::masked_for`] give the smallest list
+//! of their rule that can be expected to take a number of entries. The ring has any even number of
+//! buckets and so comes closest; the other two have a power of two.
+//!
+//! ```
+//! use holdlist::{HoldList, Settings};
+//!
+//! let settings = Settings::ring_for(12, 10_000)?;
+//! assert!(settings.capacity() >= 10_000);
+//! let list = HoldList::new(settings)?;
+//! # Ok::<(), holdlist::Refusal>(())
+//! ```
+//!
+//! That is measured with tags that differ throughout, and no promise: a hold may be refused earlier.
+//! Tags that count up in their last characters, as those of one herd do, fill half of most lists or less
+//! under the plain rule, and a quarter or less under the ring. Hold and look up such tags written
+//! backwards, or take the masked rule with more buckets than these calls give and a width of 14 or more:
+//! [`Settings::capacity`] says more of it.
+//!
+//! The width decides how many clear tags read held by chance. In a full list it is about one in 500 at
+//! width 12, twice as many under the masked rule, and half as many with each bit more. A wider
+//! fingerprint takes no more memory, since every cell has 16 bits, and no more of a hold file; the
+//! packed form grows with it.
+//!
+//! # Lists that are only looked up
+//!
+//! A hold needs scratch, which takes as much memory as the cells. A reader that gets its list as a file
+//! and only looks tags up needs none: [`LookupList`] is a list without.
+//!
+//! ```
+//! use holdlist::{HoldList, LookupList};
+//!
+//! let mut list = HoldList::default();
+//! list.hold("gate 4, ewe 17")?;
+//! let reader = LookupList::load(&list.save())?;
+//! assert!(reader.is_held("gate 4, ewe 17")?);
+//! # Ok::<(), holdlist::Refusal>(())
+//! ```
+//!
+//! # The archive
+//!
 //! The archive `libholdlist.a` is made by `rt staticlib holdlist` at the top of the repository, for
 //! x86-64 Linux. The build looks for it in the repository's `target/staticlib`, or in the folder
 //! that `HOLDLIST_LIB_DIR` names.
 #![warn(missing_docs)]
 
+mod buckets;
+mod loads;
+mod lookup;
 mod raw;
 mod refusal;
 mod settings;
+mod stopped;
 
+pub use buckets::Buckets;
+pub use lookup::LookupList;
 pub use refusal::Refusal;
 pub use settings::Settings;
+pub use stopped::Stopped;
 
-use std::fmt;
+use lookup::sure;
+use std::{fmt, ops::Deref};
 
 /// A list of held tags, with the memory that it needs.
+///
+/// The calls that only read are those of [`LookupList`], and are made on a `HoldList` in the same way.
 ///
 /// Two lists are equal if they have the same settings and the same cells.
 #[derive(Clone)]
 pub struct HoldList {
-    settings: Settings,
-    table: Vec<u16>,
+    list: LookupList,
     scratch: Vec<u32>,
-    entries: usize,
     longest: u32,
 }
 
@@ -57,8 +108,8 @@ pub struct Stats {
     pub buckets: u32,
     /// The part of the cells that is filled, 0 to 1.
     pub load: f64,
-    /// The most entries that one hold of this list has moved. A list that was read back starts from
-    /// 0.
+    /// The most entries that one hold of this list has moved. A list that was read back, or that was a
+    /// [`LookupList`], starts from 0.
     pub longest: u32,
 }
 
@@ -76,19 +127,12 @@ impl HoldList {
     /// As [`Settings::check`].
     pub fn new(settings: Settings) -> Result<HoldList, Refusal> {
         settings.check()?;
-        Ok(HoldList::of(settings, vec![0; settings.cells()], 0))
-    }
-
-    /// A list of cells that fit the settings, which pass.
-    fn of(settings: Settings, table: Vec<u16>, entries: usize) -> HoldList {
-        let scratch = vec![0; 2 * settings.buckets as usize];
-        HoldList {
+        let list = LookupList {
             settings,
-            table,
-            scratch,
-            entries,
-            longest: 0,
-        }
+            entries: 0,
+            table: vec![0; settings.cells()],
+        };
+        Ok(HoldList::from(list))
     }
 
     /// Holds a tag, and answers how many other entries moved to make room for it. No fewer moves of
@@ -115,15 +159,58 @@ impl HoldList {
     /// # Errors
     /// [`Refusal::Tag`], [`Refusal::Full`]. The list is then as it was.
     pub fn hold(&mut self, tag: impl AsRef<[u8]>) -> Result<u32, Refusal> {
+        let list = &mut self.list;
         let moves = raw::hold(
-            &self.settings,
-            &mut self.table,
+            &list.settings,
+            &mut list.table,
             &mut self.scratch,
             tag.as_ref(),
         )?;
-        self.entries += 1;
+        list.entries += 1;
         self.longest = self.longest.max(moves);
         Ok(moves)
+    }
+
+    /// Holds each tag in turn, and answers how many these were.
+    ///
+    /// It stops at the first tag that is refused, and takes no further one from the sequence. The tags
+    /// before it stay held: [`Stopped`] tells its place, so that the caller knows which are.
+    ///
+    /// ```
+    /// use holdlist::{HoldList, Refusal, Settings, Stopped};
+    ///
+    /// let mut list = HoldList::new(Settings::plain(12, 1))?;
+    /// assert_eq!(list.hold_each(["ewe 17", "ewe 18"]), Ok(2));
+    ///
+    /// // an empty tag is refused: "ewe 19" is held, and "ewe 20" is not
+    /// let stopped = list.hold_each(["ewe 19", "", "ewe 20"]).unwrap_err();
+    /// assert_eq!(stopped, Stopped { place: 1, refusal: Refusal::Tag });
+    /// assert_eq!(list.len(), 3);
+    ///
+    /// // whoever keeps the sequence can go on after it, and has to know of each that was refused
+    /// let mut tags = ["", "ewe 20", "ewe 21"].iter();
+    /// assert_eq!(list.hold_each(&mut tags).unwrap_err().refusal, Refusal::Tag);
+    /// // one bucket has room for four entries
+    /// let stopped = list.hold_each(&mut tags).unwrap_err();
+    /// assert_eq!(stopped, Stopped { place: 1, refusal: Refusal::Full });
+    /// # Ok::<(), Refusal>(())
+    /// ```
+    ///
+    /// # Errors
+    /// [`Stopped`] with [`Refusal::Tag`] or [`Refusal::Full`], and the place of the tag that was refused
+    /// with it.
+    pub fn hold_each<I>(&mut self, tags: I) -> Result<usize, Stopped>
+    where
+        I: IntoIterator,
+        I::Item: AsRef<[u8]>,
+    {
+        let mut place = 0;
+        for tag in tags {
+            self.hold(tag)
+                .map_err(|refusal| Stopped { place, refusal })?;
+            place += 1;
+        }
+        Ok(place)
     }
 
     /// What [`HoldList::hold`] would answer now: how many other entries it would move, or its refusal.
@@ -153,7 +240,8 @@ impl HoldList {
     /// # Errors
     /// [`Refusal::Tag`], [`Refusal::Full`].
     pub fn forecast(&mut self, tag: impl AsRef<[u8]>) -> Result<u32, Refusal> {
-        raw::forecast(&self.settings, &self.table, &mut self.scratch, tag.as_ref())
+        let list = &self.list;
+        raw::forecast(&list.settings, &list.table, &mut self.scratch, tag.as_ref())
     }
 
     /// Releases a tag: one entry of it, and `false` if there is none.
@@ -164,65 +252,10 @@ impl HoldList {
     /// # Errors
     /// [`Refusal::Tag`].
     pub fn release(&mut self, tag: impl AsRef<[u8]>) -> Result<bool, Refusal> {
-        let released = raw::release(&self.settings, &mut self.table, tag.as_ref())?;
-        self.entries -= usize::from(released);
+        let list = &mut self.list;
+        let released = raw::release(&list.settings, &mut list.table, tag.as_ref())?;
+        list.entries -= usize::from(released);
         Ok(released)
-    }
-
-    /// How many entries a tag has: one for each time that it was held and not released, and those of
-    /// any other tag with the same fingerprint and the same candidates.
-    ///
-    /// ```
-    /// use holdlist::HoldList;
-    ///
-    /// let mut list = HoldList::default();
-    /// list.hold("ewe")?;
-    /// list.hold("ewe")?;
-    /// assert_eq!(list.copies("ewe"), Ok(2));
-    /// // one release does not clear it
-    /// list.release("ewe")?;
-    /// assert_eq!((list.copies("ewe"), list.is_held("ewe")), (Ok(1), Ok(true)));
-    /// # Ok::<(), holdlist::Refusal>(())
-    /// ```
-    ///
-    /// # Errors
-    /// [`Refusal::Tag`].
-    pub fn copies(&self, tag: impl AsRef<[u8]>) -> Result<u32, Refusal> {
-        raw::lookup(&self.settings, &self.table, tag.as_ref())
-    }
-
-    /// Whether a tag is held: it has an entry.
-    ///
-    /// # Errors
-    /// [`Refusal::Tag`].
-    pub fn is_held(&self, tag: impl AsRef<[u8]>) -> Result<bool, Refusal> {
-        Ok(self.copies(tag)? > 0)
-    }
-
-    /// The four cells of a bucket. 0 is an empty cell, any other value a fingerprint.
-    ///
-    /// ```
-    /// use holdlist::{HoldList, Refusal};
-    ///
-    /// let mut list = HoldList::default();
-    /// list.hold("ewe")?;
-    /// let home = list.settings().home("ewe")?;
-    /// assert_eq!(list.view(home)?, [list.settings().fingerprint("ewe")?, 0, 0, 0]);
-    /// assert_eq!(list.view(4096), Err(Refusal::Bucket));
-    /// # Ok::<(), Refusal>(())
-    /// ```
-    ///
-    /// # Errors
-    /// [`Refusal::Bucket`].
-    pub fn view(&self, bucket: u32) -> Result<&[u16], Refusal> {
-        raw::view_check(&self.settings, &self.table, bucket)?;
-        let at = 4 * bucket as usize;
-        Ok(&self.table[at..at + 4])
-    }
-
-    /// Every cell, bucket after bucket.
-    pub fn cells(&self) -> &[u16] {
-        &self.table
     }
 
     /// Makes the list empty.
@@ -237,49 +270,10 @@ impl HoldList {
     /// # Ok::<(), holdlist::Refusal>(())
     /// ```
     pub fn clear(&mut self) {
-        sure(raw::clear(&self.settings, &mut self.table));
-        self.entries = 0;
+        let list = &mut self.list;
+        sure(raw::clear(&list.settings, &mut list.table));
+        list.entries = 0;
         self.longest = 0;
-    }
-
-    /// How many bytes [`HoldList::save`] would give now.
-    ///
-    /// ```
-    /// use holdlist::HoldList;
-    ///
-    /// let mut list = HoldList::default();
-    /// assert_eq!(list.file_length(), 4097);
-    /// // an entry takes two bytes
-    /// list.hold("ewe")?;
-    /// assert_eq!((list.file_length(), list.save().len()), (4099, 4099));
-    /// # Ok::<(), holdlist::Refusal>(())
-    /// ```
-    pub fn file_length(&self) -> usize {
-        sure(raw::file_length(&self.settings, &self.table))
-    }
-
-    /// The list as a hold file, with its settings.
-    ///
-    /// ```
-    /// use holdlist::{HoldList, Settings};
-    ///
-    /// // the default settings, and a byte for each empty bucket
-    /// let file = HoldList::default().save();
-    /// assert_eq!(file, [&[0x20][..], &[0; 4096]].concat());
-    /// // width and bucket count are not the default
-    /// let small = Settings::plain(4, 1);
-    /// assert_eq!(HoldList::new(small)?.save(), [0x26, 4, 0, 0, 0]);
-    /// // nor is the salt, which takes eight bytes
-    /// let salted = HoldList::new(small.with_salt(2027))?;
-    /// assert_eq!(salted.save(), [0x36, 4, 0, 0, 0xeb, 0x07, 0, 0, 0, 0, 0, 0, 0]);
-    /// # Ok::<(), holdlist::Refusal>(())
-    /// ```
-    pub fn save(&self) -> Vec<u8> {
-        // the map and five fields take at most 15 bytes, a bucket its byte, and an entry two
-        let mut out = vec![0; 15 + self.settings.buckets as usize + 2 * self.entries];
-        let count = sure(raw::file_write(&self.settings, &self.table, &mut out));
-        out.truncate(count);
-        out
     }
 
     /// The list of a hold file.
@@ -303,10 +297,7 @@ impl HoldList {
     /// [`Settings::check`] for the file's settings, [`Refusal::BucketByte`],
     /// [`Refusal::Fingerprint`], [`Refusal::LeftOver`].
     pub fn load(bytes: &[u8]) -> Result<HoldList, Refusal> {
-        let mut table = vec![0; Settings::of_file(bytes)?.cells()];
-        let settings = raw::file_read(bytes, &mut table)?;
-        let entries = filled(&table);
-        Ok(HoldList::of(settings, table, entries))
+        LookupList::load(bytes).map(HoldList::from)
     }
 
     /// A hold file of rule 2 whose mask is 0 or the number of buckets less 1, made one of rule 0: the same
@@ -337,26 +328,6 @@ impl HoldList {
         Ok(out)
     }
 
-    /// The list in its packed form, which leaves out the settings, the salt among them, and the order
-    /// within a bucket. Nor does it tell of which version its fingerprints are: one that was made
-    /// before version 0.5 is of the earlier ones, and nothing refuses it.
-    ///
-    /// ```
-    /// use holdlist::HoldList;
-    ///
-    /// let list = HoldList::load(&[0x26, 4, 0, 0, 0x0a, 9, 0, 3, 0])?;
-    /// assert_eq!(list.pack(), [0x33, 0x00]);
-    /// # Ok::<(), holdlist::Refusal>(())
-    /// ```
-    pub fn pack(&self) -> Vec<u8> {
-        let Settings { width, buckets, .. } = self.settings;
-        // a bucket takes 4 × (width − 1) bits
-        let mut out = vec![0; ((width as usize - 1) * buckets as usize + 1) / 2];
-        let count = sure(raw::packed_write(&self.settings, &self.table, &mut out));
-        out.truncate(count);
-        out
-    }
-
     /// The list of a packed form, with the entries of each bucket ascending.
     ///
     /// ```
@@ -372,25 +343,7 @@ impl HoldList {
     /// As [`Settings::check`], then [`Refusal::Short`], [`Refusal::LeftOver`], [`Refusal::Row`],
     /// [`Refusal::Order`], [`Refusal::Filling`].
     pub fn unpack(settings: Settings, bytes: &[u8]) -> Result<HoldList, Refusal> {
-        settings.check()?;
-        let mut table = vec![0; settings.cells()];
-        let entries = raw::packed_read(&settings, bytes, &mut table)?;
-        Ok(HoldList::of(settings, table, entries))
-    }
-
-    /// The settings.
-    pub fn settings(&self) -> Settings {
-        self.settings
-    }
-
-    /// How many entries the list has.
-    pub fn len(&self) -> usize {
-        self.entries
-    }
-
-    /// Whether the list has no entry.
-    pub fn is_empty(&self) -> bool {
-        self.entries == 0
+        LookupList::unpack(settings, bytes).map(HoldList::from)
     }
 
     /// Entries, buckets, load and the longest relocation.
@@ -406,9 +359,9 @@ impl HoldList {
     /// ```
     pub fn stats(&self) -> Stats {
         Stats {
-            entries: self.entries,
-            buckets: self.settings.buckets,
-            load: self.entries as f64 / self.table.len() as f64,
+            entries: self.len(),
+            buckets: self.settings().buckets,
+            load: self.len() as f64 / self.cells().len() as f64,
             longest: self.longest,
         }
     }
@@ -421,13 +374,63 @@ impl Default for HoldList {
     }
 }
 
+impl Deref for HoldList {
+    type Target = LookupList;
+
+    /// The list as one that is only looked up.
+    fn deref(&self) -> &LookupList {
+        &self.list
+    }
+}
+
+impl From<LookupList> for HoldList {
+    /// The same list, with scratch for its holds. No hold of it has moved an entry yet.
+    fn from(list: LookupList) -> HoldList {
+        let scratch = vec![0; 2 * list.settings.buckets as usize];
+        HoldList {
+            list,
+            scratch,
+            longest: 0,
+        }
+    }
+}
+
+impl<T: AsRef<[u8]>> Extend<T> for HoldList {
+    /// Holds each tag in turn. Where one may be refused take [`HoldList::hold_each`], which answers where
+    /// this panics.
+    ///
+    /// ```
+    /// use holdlist::HoldList;
+    ///
+    /// let mut list = HoldList::default();
+    /// list.extend(["ewe 17", "ewe 18"]);
+    /// assert_eq!(list.len(), 2);
+    /// ```
+    ///
+    /// # Panics
+    /// At the first tag that is refused, with what [`Stopped`] says: its place and the refusal. The tags
+    /// before it are held. To leave it out and go on would let an animal that is to be held read clear.
+    #[track_caller]
+    fn extend<I: IntoIterator<Item = T>>(&mut self, tags: I) {
+        if let Err(stopped) = self.hold_each(tags) {
+            panic!("{stopped}");
+        }
+    }
+}
+
 impl PartialEq for HoldList {
     fn eq(&self, other: &HoldList) -> bool {
-        self.settings == other.settings && self.table == other.table
+        self.list == other.list
     }
 }
 
 impl Eq for HoldList {}
+
+impl PartialEq<LookupList> for HoldList {
+    fn eq(&self, other: &LookupList) -> bool {
+        self.list == *other
+    }
+}
 
 impl fmt::Debug for HoldList {
     fn fmt(&self, f: &mut fmt::Formatter<'_>) -> fmt::Result {
@@ -436,14 +439,4 @@ impl fmt::Debug for HoldList {
             .field("entries", &self.entries)
             .finish_non_exhaustive()
     }
-}
-
-/// The answer of a call that a list cannot be refused: its settings pass, its buffers have their
-/// sizes, and only cells of its width come into its table.
-fn sure<T>(answer: Result<T, Refusal>) -> T {
-    answer.unwrap_or_else(|refusal| unreachable!("{refusal}"))
-}
-
-fn filled(table: &[u16]) -> usize {
-    table.iter().filter(|&&cell| cell != 0).count()
 }
