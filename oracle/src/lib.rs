@@ -2,6 +2,7 @@
 //! compared with.
 
 pub mod branch_free;
+pub mod displacement;
 #[cfg(target_arch = "x86_64")]
 pub mod fast;
 pub mod fnv_strings;

@@ -5,7 +5,7 @@ use crate::index::{Answer, Settings};
 use std::iter;
 
 /// Cells in a bucket.
-const CELLS: usize = 4;
+pub(crate) const CELLS: usize = 4;
 
 #[inline]
 pub(crate) fn check_table(settings: Settings, table: &[u16]) -> Answer<()> {
@@ -17,7 +17,7 @@ pub(crate) fn check_table(settings: Settings, table: &[u16]) -> Answer<()> {
 }
 
 /// Where the cells of a bucket start.
-fn start(bucket: u32) -> usize {
+pub(crate) fn start(bucket: u32) -> usize {
     CELLS * bucket as usize
 }
 
@@ -29,7 +29,7 @@ fn lowest(table: &[u16], bucket: u32, value: u16) -> Option<usize> {
 }
 
 /// The lowest cell with the value in the first of the buckets that has one.
-fn first_with(table: &[u16], buckets: &[u32], value: u16) -> Option<usize> {
+pub(crate) fn first_with(table: &[u16], buckets: &[u32], value: u16) -> Option<usize> {
     buckets.iter().find_map(|&b| lowest(table, b, value))
 }
 

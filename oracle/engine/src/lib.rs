@@ -8,6 +8,7 @@
 //! calls: `SEED=..` runs them again. `HOLDLIST_LONG` makes the runs so many times as long.
 
 pub mod boundary;
+pub mod evidence;
 pub mod make;
 pub mod pages;
 pub mod pair;
