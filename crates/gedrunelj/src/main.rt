@@ -556,7 +556,7 @@ fn main() {
         return;
     }
     if o.version {
-        io::write_all(STDOUT_FILENO, b"gedrunelj 0.7.0\n");
+        io::write_all(STDOUT_FILENO, b"gedrunelj 0.8.0\n");
         report(o.report, 0);
         return;
     }
