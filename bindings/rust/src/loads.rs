@@ -75,6 +75,7 @@ fn parts(rule: u32, width: u32, buckets: u32) -> (u32, u32) {
 mod tests;
 
 /// By rule, width less 4, and the power of two that the bucket count is; 0 where there is no such list.
+/// `./evidence` writes this table.
 #[rustfmt::skip]
 const LOADS: [[[u16; 17]; 13]; 3] = [
     // rule 0, plain

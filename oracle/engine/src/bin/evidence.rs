@@ -1,5 +1,5 @@
 //! Measures what docs/EVIDENCE.md tells, draws its plots and that of docs/BENCHMARK.md, and writes
-//! the text of both.
+//! the text of both, a section of README.md, and the table of loads of the Rust crate.
 //!
 //! ```text
 //! evidence make TOP     measures everything; writes data, plots and text below TOP, the repository
@@ -44,6 +44,9 @@ const PAGES: [(&str, &str); 2] = [
     ("oracle/engine/benchmark.in", "docs/BENCHMARK.md"),
 ];
 
+/// The source of the Rust crate that has the loads in it.
+const LOADS: &str = "bindings/rust/src/loads.rs";
+
 /// The template of a section, and the page that has it.
 const SECTION: (&str, &str) = ("oracle/engine/readme.in", "README.md");
 
@@ -68,7 +71,7 @@ fn kept(top: &Path) -> Result<Set, Failed> {
     all.collect::<Result<Vec<Data>, Failed>>().map(Set)
 }
 
-/// The plots and the text of some data: each file with what it has to have in it.
+/// The plots, texts and loads of some data: each file with what it has to have in it.
 fn made(top: &Path, set: &Set) -> Result<Vec<(PathBuf, String)>, Failed> {
     let mut files = Vec::new();
     for (name, drawn) in plots::ALL {
@@ -85,6 +88,8 @@ fn made(top: &Path, set: &Set) -> Result<Vec<(PathBuf, String)>, Failed> {
     let (template, page) = SECTION;
     let whole = text::with_section(&read(page)?, &rendered(template)?)?;
     files.push((top.join(page), whole));
+    let source = text::with_loads(&read(LOADS)?, set).map_err(|e| format!("{LOADS}: {e}"))?;
+    files.push((top.join(LOADS), source));
     Ok(files)
 }
 

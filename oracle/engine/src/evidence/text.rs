@@ -436,6 +436,35 @@ fn table(name: &str, set: &Set) -> Result<String, String> {
     Ok(lines.join("\n"))
 }
 
+/// Where the table of loads starts in the Rust crate's source, of which it is the last part.
+const LOADS: &str = "const LOADS: [[[u16; 17]; 13]; 3] = [";
+
+/// The source that has the table of loads, with the loads of the data: by rule, width and power of two
+/// the least of the lists with tags that differ, in thousandths of the cells, rounded down.
+pub fn with_loads(source: &str, set: &Set) -> Result<String, String> {
+    let start = source
+        .find(LOADS)
+        .ok_or("the table of loads is not there")?;
+    let mut lines = vec![LOADS.to_string()];
+    for rule in RULES {
+        let name = rule_name(rule);
+        lines.push(format!("    // rule {rule}, {name}\n    ["));
+        for width in 4..=16 {
+            let loads = (0..=16).map(|log| {
+                // A rule that does not take so few buckets has no row.
+                filled(set, "differ", name, width, 1u32 << log).map_or(0, |row| {
+                    (250.0 * row.number("least") / row.number("buckets")) as u32
+                })
+            });
+            let loads: Vec<String> = loads.map(|load| format!("{load:4}")).collect();
+            lines.push(format!("        [{}], // width {width}", loads.join(", ")));
+        }
+        lines.push("    ],".to_string());
+    }
+    lines.push("];\n".to_string());
+    Ok([&source[..start], &lines.join("\n")].concat())
+}
+
 /// The head of a table, with the line below it.
 pub fn headed(heads: &str) -> String {
     let columns = heads.split(" | ").count();
