@@ -38,10 +38,10 @@
 //! ```
 //!
 //! That is measured with tags that differ throughout, and no promise: a hold may be refused earlier.
-//! Tags that count up in their last characters, as those of one herd do, fill half of most lists or less
-//! under the plain rule, and a quarter or less under the ring. Hold and look up such tags written
-//! backwards, or take the masked rule with more buckets than these calls give and a width of 14 or more:
-//! [`Settings::capacity`] says more of it.
+//! Tags that count up in their last characters, as those of one herd do, fill less than half of 4,096
+//! buckets under the plain rule, and less than a quarter under the ring. Hold and look up such tags
+//! written backwards, or take the masked rule with more buckets than these calls give and a width of 14
+//! or more: [`Settings::capacity`] says more of it.
 //!
 //! The width decides how many clear tags read held by chance. In a full list it is about one in 500 at
 //! width 12, twice as many under the masked rule, and half as many with each bit more. A wider
