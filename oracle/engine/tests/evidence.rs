@@ -57,6 +57,30 @@ fn a_figure_is_picked_out_of_the_data() {
 }
 
 #[test]
+fn what_is_not_full_is_not_told_as_full() {
+    // of 262,144 cells all but one, and all
+    let rows = FILLED.lines().next().unwrap().to_string()
+        + "\ndiffer,masked,12,65536,4,262143,262144,262144,1,1,1,0\n";
+    let set = Set(vec![Data::of("first_refusal", &rows)]);
+    for (figure, least, most) in [
+        ("load", "99.9", "100.0"),
+        ("finely", "99.99", "100.00"),
+        ("whole", "99", "100"),
+    ] {
+        let of = |column| {
+            rendered(
+                &format!("{{{figure} differ masked 12 65536 {column}}}"),
+                &set,
+            )
+        };
+        assert_eq!(
+            (of("least"), of("most")),
+            (Ok(least.to_string()), Ok(most.to_string()))
+        );
+    }
+}
+
+#[test]
 fn numbers_have_commas() {
     for (number, shown) in [
         (0.0, "0"),

@@ -182,7 +182,7 @@ fn first_refusal(set: &Set) -> String {
     svg(
         "How full a list gets before the first tag finds no room (width 12)",
         "Median, least and most of the lists. On the left tags that differ throughout: the plain and \
-         the ring rule come close to full, the masked rule fills its lists, and random displacement \
+         the ring rule come close to full, the masked rule closer still, and random displacement \
          gives up earlier under each. On the right tags that count up: lists are full much earlier, \
          those of a thousand buckets earliest, and under the masked rule last.",
         &[

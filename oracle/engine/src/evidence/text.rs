@@ -67,23 +67,21 @@ fn figure(words: &[&str], set: &Set) -> Result<String, String> {
             load(&filled(set, tags, rule, width, buckets)?, column)
         }
         ["whole", tags, rule, width, buckets, column] => {
-            let row = filled(set, tags, rule, width, buckets)?;
-            format!("{:.0}", 25.0 * row.number(column) / row.number("buckets"))
+            part(loaded(&filled(set, tags, rule, width, buckets)?, column), 0)
         }
         ["finely", tags, rule, width, buckets, column] => {
-            let row = filled(set, tags, rule, width, buckets)?;
-            format!("{:.2}", 25.0 * row.number(column) / row.number("buckets"))
+            part(loaded(&filled(set, tags, rule, width, buckets)?, column), 2)
         }
         ["lists", tags, rule, width, buckets] => {
             count(filled(set, tags, rule, width, buckets)?.number("lists"))
         }
-        // The least of all medians from a bucket count on, and the most.
+        // The least and the most of a load over the bucket counts from one on.
         ["loads", tags, rule, width, from, column] => {
             let from: f64 = from.parse().map_err(|_| "no number")?;
             let rows =
                 data("first_refusal").with(&[("tags", &tags), ("rule", &rule), ("width", &width)]);
             let rows = rows.iter().filter(|r| r.number("buckets") >= from);
-            range(rows.map(|r| 100.0 * r.number(column) / r.number("buckets") / 4.0))
+            range(rows.map(|r| loaded(r, column)))
         }
         // The load of a ring whose half has factors in common with the offsets.
         ["split", width, buckets, column] => {
@@ -151,12 +149,23 @@ fn percent(share: f64) -> String {
     format!("{percent:.places$}")
 }
 
-/// A load of a row in percent.
+/// A part of a hundred, rounded, but never to the whole: what is not full is not told as full.
+fn part(percent: f64, places: usize) -> String {
+    let rounded = format!("{percent:.places$}");
+    if percent < 100.0 && rounded.starts_with("100") {
+        let scale = f64::powi(10.0, places as i32);
+        return format!("{:.places$}", (percent * scale).floor() / scale);
+    }
+    rounded
+}
+
+/// How much of the cells of a row is filled, in percent.
+fn loaded(row: &Row, column: &str) -> f64 {
+    100.0 * row.number(column) / row.number("buckets") / 4.0
+}
+
 fn load(row: &Row, column: &str) -> String {
-    format!(
-        "{:.1}",
-        100.0 * row.number(column) / row.number("buckets") / 4.0
-    )
+    part(loaded(row, column), 1)
 }
 
 /// Hundredths of a percent as percent.
@@ -168,7 +177,7 @@ fn hundredths(value: f64) -> String {
 fn range(values: impl Iterator<Item = f64> + Clone) -> String {
     let least = values.clone().fold(f64::INFINITY, f64::min);
     let most = values.fold(0.0, f64::max);
-    format!("{least:.1} to {most:.1}")
+    format!("{} to {}", part(least, 1), part(most, 1))
 }
 
 /// A whole number with a comma between thousands.
@@ -237,10 +246,10 @@ fn moves(set: &Set, rule: &str, load: &str, side: &str, what: &str) -> Result<St
 fn offered(set: &Set, rule: &str, what: &str) -> Result<String, String> {
     let keys: [(&str, &dyn Display); 2] = [("rule", &rule), ("buckets", &16_384)];
     let row = one(set.get("offered"), &keys)?;
-    let part = |column| format!("{:.2}", 100.0 * row.number(column) / row.number("offered"));
+    let stored = |column| part(100.0 * row.number(column) / row.number("offered"), 2);
     Ok(match what {
-        "stored" => part("stored"),
-        "kick stored" => part("kick stored"),
+        "stored" => stored("stored"),
+        "kick stored" => stored("kick stored"),
         "moves" => format!("{:.2}", row.number("moves") / row.number("stored")),
         "kicks" => format!("{:.2}", row.number("kicks") / row.number("offered")),
         _ => return Err("no such figure".to_string()),
