@@ -1,4 +1,6 @@
 // The bucket view: the four cells of one bucket, as a part of the table that the caller lends.
+#![tactic(auto)]
+
 ghost use Rattle.std.specs.Prelude.{◌≡◌};
 ghost use Rattle.calls.specs.Calls.{view_number};
 ghost use Rattle.bucket_view.specs.Views.{Views};

@@ -1,1 +1,2 @@
 // Definitions and theorems that table stands on. There is no code here.
+#![tactic(auto)]

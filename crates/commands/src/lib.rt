@@ -1,5 +1,7 @@
 // The lines of the command-line tool: what a line asks for, and the numbers that are told of a list. The
 // tool itself only reads lines, makes the calls and prints their answers.
+#![tactic(auto)]
+
 mod counts;
 mod options;
 mod words;
@@ -9,7 +11,7 @@ pub use options::{option, without_mark};
 pub use words::{argument, first_name, parse, second_name};
 
 // What a command takes, or one of the numbers that it takes.
-#[derive(Drop)]
+#[derive(Clone, Copy)]
 pub enum Expected {
     Tag,
     File,
@@ -25,7 +27,7 @@ pub enum Expected {
 }
 
 // What a line asks for, or what is wrong with it. A tag or the name of a file is the line's argument; of two names the first is a word.
-#[derive(Drop)]
+#[derive(Clone, Copy)]
 pub enum Command {
     Nothing,
     Settings(u32, u32, u32, u32, u64),
@@ -58,7 +60,7 @@ pub enum Command {
 }
 
 // What an argument of the tool asks for.
-#[derive(Drop)]
+#[derive(Clone, Copy)]
 pub enum Choice {
     // a script of this name
     Script,
@@ -73,14 +75,14 @@ pub enum Choice {
 }
 
 // A number below 2^32 that was typed.
-#[derive(Drop)]
+#[derive(Clone, Copy)]
 enum Decimal {
     Value(u32),
     None,
 }
 
 // What a name asks for: nothing that there is, a command with a text, two names or nothing after it, or one that takes numbers.
-#[derive(Drop)]
+#[derive(Clone, Copy)]
 enum Asks {
     Unknown,
     Text(Command, Expected),

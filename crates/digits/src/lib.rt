@@ -1,10 +1,12 @@
 // Digits as they are typed, and the numbers that they make.
+#![tactic(auto)]
+
 ghost use Rattle.std.specs.Prelude.{◌≡◌, ◌+◌, ◌*◌, ◌≤◌, ◌<◌, leb};
 ghost use Rattle.digits.specs.Digits.{hex_value, hex_mark};
 ghost use Rattle.digits.specs.Numbers.{value_of, decimal_of, number_of, typed_is, number_told};
 
 // A number that was typed.
-#[derive(Drop)]
+#[derive(Clone, Copy)]
 pub enum Typed {
     Number(u64),
     None,

@@ -1,5 +1,7 @@
 // The converter: the hold file of a list that was kept under a degenerate mask, made one of the plain rule. It looks at the file twice,
 // as the reader does: once at all of it, to check, and once at what is copied.
+#![tactic(auto)]
+
 ghost use Rattle.std.specs.Prelude.{◌≡◌, ◌+◌, ◌-◌, ◌≤◌, length, drop};
 ghost use Rattle.std.proofs.lemmas.List.Edits.{sets};
 ghost use Rattle.refusals.specs.Outcomes.{outcome};

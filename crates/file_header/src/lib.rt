@@ -1,5 +1,7 @@
 // The hold file's header: a map, and the fields whose bit stands. The functions at the top name the fields, as the definitions in
 // file_form's specs/Header.antt do, and the loops go over the lists that they give.
+#![tactic(auto)]
+
 ghost use Rattle.std.specs.Prelude.{◌≡◌, cond, ◌+◌, ◌-◌, ◌≤◌, length, drop, get_or};
 ghost use Rattle.std.proofs.Math.Option.{none};
 ghost use Rattle.lemmas.specs.Bytes.{bytes_of};
@@ -18,21 +20,21 @@ ghost use Rattle.file_header.specs.Internal.{NumberTaken};
 use index::Settings;
 
 // The file's settings, or the number of the refusal.
-#[derive(Drop)]
+#[derive(Clone, Copy)]
 pub enum ReadAnswer {
     Read(Settings),
     Refused(u32),
 }
 
 // The settings that a header names and the place after it, or the number of the refusal.
-#[derive(Drop)]
+#[derive(Clone, Copy)]
 pub enum HeaderRead {
     Fields(Settings, usize),
     Refused(u32),
 }
 
 // A field of the header, and the place after it.
-#[derive(Drop)]
+#[derive(Clone, Copy)]
 enum Number {
     Value(u64, usize),
     Short,

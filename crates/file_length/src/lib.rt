@@ -1,4 +1,6 @@
 // The length of the hold file of a table, told before it is written: the writer's checks but for that of the output, and its first pass.
+#![tactic(auto)]
+
 ghost use Rattle.std.specs.Prelude.{◌≡◌, ◌+◌, ◌*◌, ◌<◌, ◌≤◌, max, length};
 ghost use Rattle.file_form.specs.Writer.{length_of_file};
 ghost use Rattle.file_length.specs.Answers.{length_is};
@@ -7,14 +9,14 @@ ghost use Rattle.file_length.specs.Internal.{size_is, body_size};
 use index::Settings;
 
 // The byte count, or the number of the refusal.
-#[derive(Drop)]
+#[derive(Clone, Copy)]
 pub enum LengthAnswer {
     Bytes(usize),
     Refused(u32),
 }
 
 // The byte count of the buckets.
-#[derive(Drop)]
+#[derive(Clone, Copy)]
 enum Size {
     Bytes(usize),
     TooWide,

@@ -1,4 +1,6 @@
 // What stands at a path: its kind, its rights, its owner and its group.
+#![tactic(auto)]
+
 ghost use Rattle.std.specs.Prelude.{◌≡◌, false, pos};
 ghost use Rattle.libc.specs.Io.{Ended};
 ghost use Rattle.filestat.specs.Tells.{NoZero, IsPath, Tells, Silent};
@@ -7,7 +9,7 @@ use libc::{PATH_MAX, types};
 
 const LAST: usize = PATH_MAX - 1;
 
-#[derive(Drop)]
+#[derive(Clone, Copy)]
 pub struct FileStatus {
     // Whether the system told of it. Where it did not, error says why, and the rest is 0.
     pub found: bool,

@@ -1,5 +1,7 @@
 // What a hold would answer now. The search is a hold's own, which changes no cell; the moves are counted on the path that it leaves in
 // scratch.
+#![tactic(auto)]
+
 ghost use Rattle.std.specs.Prelude.{◌+◌, ◌/◌, ◌≤◌, ◌≡◌, length};
 ghost use Rattle.table.specs.Scratch.{path_in, Sparse};
 ghost use Rattle.forecast.specs.Forecasts.{Forecasts};

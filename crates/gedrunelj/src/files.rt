@@ -7,14 +7,14 @@ ghost use Rattle.io.specs.Counts.{IsPrefixLen};
 use filestat::FileStatus;
 
 // How many bytes a file has, as far as there is room, and the system's error, 0 where it could be read.
-#[derive(Drop)]
+#[derive(Clone, Copy)]
 pub(crate) struct Fetched {
     pub(crate) count: usize,
     pub(crate) error: i32,
 }
 
 // What became of a file that was to be written. But for the first and the last, it is as it was.
-#[derive(Drop)]
+#[derive(Clone, Copy)]
 pub(crate) enum Stored {
     Whole,
     // the system's error

@@ -2,6 +2,8 @@
 // the script that an argument names. Each line gets one line of answer. What a line asks for is the
 // crate `commands`'s to say, and what becomes of the list that of the crates below it: here lines are
 // read, calls are made, and answers are printed.
+#![tactic(auto)]
+
 mod files;
 mod list;
 mod tell;
@@ -17,7 +19,7 @@ use tell::{Log, bad, print};
 // What is kept from line to line: the settings of the list, its longest relocation, the number of the
 // line, whether a list that should have been read was not, and whether the rest of a line that is too
 // long is still to come.
-#[derive(Drop)]
+#[derive(Clone, Copy)]
 struct State {
     settings: Settings,
     longest: u32,
@@ -194,7 +196,7 @@ fn line_end(s: &[u8], at: usize) -> usize
 }
 
 // Where the lines that were answered end, and what is kept after them.
-#[derive(Drop)]
+#[derive(Clone, Copy)]
 struct Answered {
     at: usize,
     state: State,
@@ -244,7 +246,7 @@ fn move_down(s: &mut [u8], from: usize, to: usize) -> usize
 }
 
 // What is left of the input in the room for lines, what is kept, and whether more may come.
-#[derive(Drop)]
+#[derive(Clone, Copy)]
 struct Left {
     have: usize,
     more: bool,
@@ -397,7 +399,7 @@ fn serve_lent(log: &mut Log, fd: i32, asks: bool) -> u64 {
 
 // What the arguments ask for: the options, whether one of them is wrong, and which argument names the
 // script, 0 for standard input.
-#[derive(Drop)]
+#[derive(Clone, Copy)]
 struct Options {
     strict: bool,
     report: bool,

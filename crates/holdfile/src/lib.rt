@@ -1,4 +1,6 @@
 // The hold file: a table written as bytes, and read back. Numbers of two bytes have the low byte first.
+#![tactic(auto)]
+
 ghost use Rattle.std.specs.Prelude.{◌≡◌, cond, ◌&&◌, ◌||◌, List, [], ◌∷◌, ℕ, ◌+◌, ◌*◌, ◌-◌, ◌%◌, ◌^◌, ◌<◌, ◌≤◌, eqb, leb, length, drop};
 ghost use Rattle.std.proofs.lemmas.List.Edits.{sets};
 ghost use Rattle.lemmas.specs.Stores.{Put, PutBefore};
@@ -16,21 +18,21 @@ use file_length::LengthAnswer;
 use index::Settings;
 
 // The byte count, or the number of the refusal.
-#[derive(Drop)]
+#[derive(Clone, Copy)]
 pub enum WriteAnswer {
     Written(usize),
     Refused(u32),
 }
 
 // A number of one or two bytes, and the place after it.
-#[derive(Drop)]
+#[derive(Clone, Copy)]
 enum Field {
     Value(u32, usize),
     Short,
 }
 
 // The four cells of a bucket.
-#[derive(Drop)]
+#[derive(Clone, Copy)]
 struct Cells {
     a: u16,
     b: u16,
@@ -39,14 +41,14 @@ struct Cells {
 }
 
 // A bucket and the place after it, or the number of the refusal.
-#[derive(Drop)]
+#[derive(Clone, Copy)]
 enum BucketRead {
     Bucket(Cells, usize),
     Refused(u32),
 }
 
 // The place after a bucket or more of them.
-#[derive(Drop)]
+#[derive(Clone, Copy)]
 enum Pass {
     End(usize),
     Refused(u32),

@@ -1,6 +1,8 @@
 // The filter for C. Each call takes settings, numbers and lent buffers, and its result is one signed number: 0
 // or more is the answer, below 0 is minus the number of a refusal. Nothing is asked of a caller but that its
 // buffers are there, and that one which is written overlaps no other.
+#![tactic(auto)]
+
 ghost use Rattle.std.specs.Prelude.{◌≡◌, ℕ, ◌+◌, ◌*◌, ◌<◌, ◌^◌, pos, length};
 ghost use Rattle.std.proofs.Math.Option.{some};
 ghost use Rattle.refusals.specs.Checks.{first_met};

@@ -1,5 +1,7 @@
 // The index rules of a cuckoo filter: settings, hash, fingerprint, offset and candidates. The table
 // above relies on the laws of specs/Laws.antt and on nothing else.
+#![tactic(auto)]
+
 ghost use Rattle.std.specs.Prelude.{◌≡◌, ◌+◌, ◌-◌, ◌*◌, ◌%◌, ◌^◌, ◌<◌, ◌≤◌, not, ◌||◌, ◌≢◌, [], ◌∷◌, ◌++◌, bit_xor};
 ghost use Rattle.std.proofs.Math.Option.{none};
 ghost use Rattle.refusals.specs.Checks.{first_met, number_of};
@@ -9,7 +11,7 @@ ghost use Rattle.index.specs.Candidates.{offset as offset_of, across as across_o
 ghost use Rattle.index.specs.Answers.{checked_is, checked_settings, tag_entry_is, entry_of, offset_is, offset_answer, Lists, candidates_answer};
 
 // The settings of a table. Any numbers can be handed in, so each call checks them.
-#[derive(Drop)]
+#[derive(Clone, Copy)]
 pub struct Settings {
     pub rule: u32,
     pub width: u32,
@@ -19,27 +21,27 @@ pub struct Settings {
 }
 
 // The checking constructor's answer.
-#[derive(Drop)]
+#[derive(Clone, Copy)]
 pub enum Checked {
     Passed(Settings),
     Refused(u32),
 }
 
 // The fingerprint and the home bucket of a tag.
-#[derive(Drop)]
+#[derive(Clone, Copy)]
 pub enum TagEntry {
     At(u16, u32),
     Refused(u32),
 }
 
-#[derive(Drop)]
+#[derive(Clone, Copy)]
 pub enum OffsetAnswer {
     Is(u32),
     Refused(u32),
 }
 
 // The first `count` buckets are the candidates, in order. Where refusal is not 0 there are none.
-#[derive(Drop)]
+#[derive(Clone, Copy)]
 pub struct CandidateList {
     pub refusal: u32,
     pub count: u32,

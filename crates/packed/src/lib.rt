@@ -1,4 +1,6 @@
 // The packed form of a table: semi-sorted buckets as a stream of bits, and back.
+#![tactic(auto)]
+
 ghost use Rattle.std.specs.Prelude.{◌≡◌, not, cond, [], ◌∷◌, ◌++◌, ◌+◌, ◌*◌, ◌-◌, ◌/◌, ◌%◌, ◌^◌, ◌<◌, ◌≤◌, min, max, eqb, length, get_or, take, drop};
 ghost use Rattle.std.proofs.Math.Option.{none};
 ghost use Rattle.lemmas.specs.Bytes.{bytes_of, number_from};
@@ -17,14 +19,14 @@ ghost use Rattle.packed.specs.Internal.{Width, BucketAsked, BucketAt, PairFits, 
 use index::Settings;
 
 // The byte count, or the number of the refusal.
-#[derive(Drop)]
+#[derive(Clone, Copy)]
 pub enum PackAnswer {
     Packed(usize),
     Refused(u32),
 }
 
 // The number of filled cells, or the number of the refusal.
-#[derive(Drop)]
+#[derive(Clone, Copy)]
 pub enum UnpackAnswer {
     Unpacked(usize),
     Refused(u32),
@@ -345,7 +347,7 @@ fn code_at(w: u32, bytes: &[u8], b: usize) -> u64
 }
 
 // The numbers of two buckets.
-#[derive(Drop)]
+#[derive(Clone, Copy)]
 struct Pair {
     one: u64,
     two: u64,
@@ -460,7 +462,7 @@ fn filling_set(s: Settings, bytes: &[u8]) -> bool
 }
 
 // How many buckets passed, and how many of their cells are filled.
-#[derive(Drop)]
+#[derive(Clone, Copy)]
 struct Seen {
     buckets: usize,
     count: usize,

@@ -1,1 +1,2 @@
 // Definitions and theorems that packed stands on. There is no code here.
+#![tactic(auto)]

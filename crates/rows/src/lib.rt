@@ -1,5 +1,7 @@
 // The rows of the packed form: every ascending quadruple of nibbles in dictionary order, as a constant
 // table, and the counts by which the row of a quadruple is found.
+#![tactic(auto)]
+
 ghost use Rattle.std.specs.Prelude.{◌≡◌};
 ghost use Rattle.rows.specs.Rows.{rows, larger};
 

@@ -1,5 +1,7 @@
 // The table of a cuckoo filter: clear, lookup, release and hold over cells that the caller lends. Bucket
 // b is cells 4b to 4b + 3, and 0 is an empty cell.
+#![tactic(auto)]
+
 ghost use Rattle.std.specs.Prelude.{◌≡◌, ◌||◌, cond, ℕ, ◌+◌, ◌*◌, ◌/◌, ◌%◌, ◌^◌, ◌<◌, ◌≤◌, eqb, length, take, set};
 ghost use Rattle.std.proofs.Math.Option.{none, some};
 ghost use Rattle.lemmas.specs.Count.{occ, ◌among◌};
@@ -18,14 +20,14 @@ mod search;
 pub use search::{hold, probe};
 
 // A cell's number, where one is found.
-#[derive(Drop)]
+#[derive(Clone, Copy)]
 enum Place {
     At(usize),
     Nowhere,
 }
 
 // What the scan of a bucket reports: how many of its cells hold the fingerprint, and the lowest of them.
-#[derive(Drop)]
+#[derive(Clone, Copy)]
 struct Scanned {
     copies: u32,
     lowest: Place,
@@ -33,14 +35,14 @@ struct Scanned {
 
 // What looking at a bucket comes to: the queue's length after it, and the bucket's lowest empty cell if
 // it was not marked before.
-#[derive(Drop)]
+#[derive(Clone, Copy)]
 struct Visited {
     tail: usize,
     place: Place,
 }
 
 // How a search ends: with an empty cell and the queue index of its bucket, or with none and the number of buckets marked.
-#[derive(Drop)]
+#[derive(Clone, Copy)]
 enum SearchAnswer {
     Found(usize, usize),
     Exhausted(usize),
@@ -48,7 +50,7 @@ enum SearchAnswer {
 
 // Where the entry of a tag would go: to an empty cell of one of its candidates; to one at the end of a relocation path, with how many
 // entries of the queue are roots and the queue index of the cell's bucket; or nowhere, with the number of buckets marked.
-#[derive(Drop)]
+#[derive(Clone, Copy)]
 pub enum ProbeAnswer {
     Refused(u32),
     Free {
@@ -64,20 +66,20 @@ pub enum ProbeAnswer {
     Exhausted(usize),
 }
 
-#[derive(Drop)]
+#[derive(Clone, Copy)]
 pub enum ClearAnswer {
     Cleared,
     Refused(u32),
 }
 
 // Copies has the number of copies: the tag is held where it is above 0.
-#[derive(Drop)]
+#[derive(Clone, Copy)]
 pub enum LookupAnswer {
     Copies(u32),
     Refused(u32),
 }
 
-#[derive(Drop)]
+#[derive(Clone, Copy)]
 pub enum ReleaseAnswer {
     Released,
     Absent,
@@ -85,7 +87,7 @@ pub enum ReleaseAnswer {
 }
 
 // Accepted has the number of entries that moved.
-#[derive(Drop)]
+#[derive(Clone, Copy)]
 pub enum HoldAnswer {
     Accepted(u32),
     Refused(u32),

@@ -13,6 +13,8 @@
 //     releases SEED COUNT
 //     lookups SEED COUNT
 //     cells                       all cells that are lent, or their hash where they are many
+#![tactic(auto)]
+
 ghost use Rattle.std.specs.Prelude.{◌≡◌, ◌+◌, ◌≤◌, min, length};
 ghost use Rattle.io.specs.Counts.{IsPrefixLen};
 
@@ -20,14 +22,14 @@ use digits::{Typed, hex_value};
 use libc::{STDIN_FILENO, STDOUT_FILENO};
 
 // A number, and where the field after it starts.
-#[derive(Drop)]
+#[derive(Clone, Copy)]
 struct Number {
     value: u64,
     next: usize,
 }
 
 // The settings that go with each call, and how many cells and words of scratch it is lent.
-#[derive(Drop)]
+#[derive(Clone, Copy)]
 struct Lent {
     settings: index::Settings,
     cells: usize,
@@ -35,7 +37,7 @@ struct Lent {
 }
 
 // What calls on many tags said: yes, no, or neither, and of lookups how many copies in all.
-#[derive(Drop)]
+#[derive(Clone, Copy)]
 struct Counted {
     yes: u64,
     no: u64,
@@ -44,7 +46,7 @@ struct Counted {
 }
 
 // What many holds said, with the sum and the most of their moves, and a hash of all answers.
-#[derive(Drop)]
+#[derive(Clone, Copy)]
 struct Held {
     accepted: u64,
     refused: u64,

@@ -6,6 +6,8 @@
 //     tag RULE WIDTH BUCKETS MASK SALT HEX
 //     offset RULE WIDTH BUCKETS MASK SALT VALUE
 //     candidates RULE WIDTH BUCKETS MASK SALT VALUE BUCKET
+#![tactic(auto)]
+
 ghost use Rattle.std.specs.Prelude.{◌≡◌, ◌≤◌, length};
 ghost use Rattle.io.specs.Counts.{IsPrefixLen};
 
@@ -13,14 +15,14 @@ use digits::{Typed, hex_value};
 use libc::{STDIN_FILENO, STDOUT_FILENO};
 
 // A number, and where the field after it starts.
-#[derive(Drop)]
+#[derive(Clone, Copy)]
 struct Number {
     value: u64,
     next: usize,
 }
 
 // The five numbers of the settings, and where the field after them starts.
-#[derive(Drop)]
+#[derive(Clone, Copy)]
 struct Given {
     settings: index::Settings,
     next: usize,

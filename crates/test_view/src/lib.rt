@@ -1,5 +1,7 @@
 // The bucket view for tests that are not written in Rattle. An exported function hands back no part of
 // a slice, so that this one tells the part cell by cell.
+#![tactic(auto)]
+
 ghost use Rattle.std.specs.Prelude.{◌≡◌, get_or};
 ghost use Rattle.calls.specs.Calls.{viewed};
 ghost use Rattle.test_view.specs.Lent.{settings_of};

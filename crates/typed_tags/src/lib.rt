@@ -1,4 +1,6 @@
 // A tag as it is typed.
+#![tactic(auto)]
+
 ghost use Rattle.std.specs.Prelude.{◌≡◌, true, ◌++◌, ◌≤◌, ◌/◌, length, drop};
 ghost use Rattle.std.proofs.Math.Option.{some};
 ghost use Rattle.refusals.specs.Outcomes.{outcome};
@@ -8,7 +10,7 @@ ghost use Rattle.typed_tags.specs.Internal.{hex_passes, hex_pairs};
 use digits::{hex_value, is_marked};
 
 // A tag that was typed: its length, the number by which it is refused, or digits that are none.
-#[derive(Drop)]
+#[derive(Clone, Copy)]
 pub enum TagAnswer {
     Is(usize),
     Refused(u32),

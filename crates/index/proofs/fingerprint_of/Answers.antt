@@ -1,0 +1,24 @@
+use Rattle.std.proofs.Common.{arith, pow_pos, rules}
+use Rattle.index.specs.Hash.{lower_half, fingerprint_of}
+use Rattle.index.proofs.Computes.{limit-shifted, print-small}
+use Rattle.index.proofs.Good.{Good, good, some-prints}
+use Rattle.index.proofs.fingerprint_of.Goals as goal
+
+pub overflow_shl-prints : goal.overflow_shl-prints
+overflow_shl-prints c = omega (arith, (good _ c.requires).width_high)
+
+pub overflow_sub-prints : goal.overflow_sub-prints
+overflow_sub-prints c = rw (limit-shifted (good _ c.requires)) (pow_pos c.args.s.width)
+
+pub nonzero_rem-result : goal.nonzero_rem-result
+nonzero_rem-result c = rw (limit-shifted (good _ c.requires)) (some-prints (good _ c.requires))
+
+pub overflow_add-result : goal.overflow_add-result
+overflow_add-result c = record { fits = rw (limit-shifted (good _ c.requires)) (omega (arith, print-small (good _ c.requires) c.args.h)) }
+
+pub overflow_cast-result : goal.overflow_cast-result
+overflow_cast-result c = record { fits = rw (limit-shifted (good _ c.requires)) (omega (arith, print-small (good _ c.requires) c.args.h)) }
+
+pub returns : goal.returns
+unfolding lower_half fingerprint_of
+returns c = rw (limit-shifted (good _ c.requires)) (omega arith)

@@ -1,0 +1,26 @@
+use Rattle.std.proofs.Common.{lt_trans, lt_of_le_of_lt, mod-lt, arith, rules}
+use lib.Bits.{and_le_r}
+use Rattle.index.proofs.Computes.{ring-result, low_bits}
+use Rattle.index.proofs.Good.{Good, good}
+use Rattle.index.proofs.reduce.Goals as goal
+
+pub nonzero_rem-result : goal.nonzero_rem-result
+nonzero_rem-result c = let g = (good _ c.before.before.requires) in omega (arith, g.even c.if-rule-eq1.true, g.some_bucket)
+
+pub overflow_cast-result : goal.overflow_cast-result
+overflow_cast-result c =
+    let a = c.before.before in
+    let g = (good _ a.requires) in
+    record { fits = lt_trans (mod-lt a.args.h (omega (arith, g.even c.if-rule-eq1.true, g.some_bucket))) (omega (arith, g.few_buckets)) }
+
+pub overflow_sub-result : goal.overflow_sub-result
+overflow_sub-result c = (good _ c.before.before.requires).some_bucket
+
+pub overflow_cast-result-else-rule-eq1 : goal.overflow_cast-result-else-rule-eq1
+overflow_cast-result-else-rule-eq1 c = let a = c.before.before in record { fits = lt_of_le_of_lt (and_le_r a.args.h _) (omega (arith, (good _ a.requires).few_buckets)) }
+
+pub returns-then-rule-eq1 : goal.returns-then-rule-eq1
+returns-then-rule-eq1 c = ring-result (good _ c.before.before.requires) _ c.if-rule-eq1.true
+
+pub returns-else-rule-eq1 : goal.returns-else-rule-eq1
+returns-else-rule-eq1 c = low_bits (good _ c.before.before.requires) _ c.if-rule-eq1.false
