@@ -1,7 +1,7 @@
 -- Whether entries can be assigned, decided: each candidate of each entry is tried. The type of `dec_assignable` says that it decides the
 -- plain meaning, so that nothing here has to be believed.
 -- Assumes nothing.
-use Rattle.std.proofs.Common.{subst, inl, inr, arith}
+use Rattle.std.proofs.Common.{subst, sym, inl, inr, arith}
 use Rattle.std.specs.Prelude.{List, [], ◌∷◌, ℕ, ◌+◌, ◌≤◌}
 use Rattle.std.proofs.Math.Decide.{dec_lt, map_dec}
 use Rattle.lemmas.specs.Count.{occ, ◌among◌}
@@ -16,7 +16,7 @@ Room us ks = (bs : List ℕ) × Fits ks bs × ((x : ℕ) → occ x bs + occ x us
 module _ (ks : List Class) (us : List ℕ) (h : (x : ℕ) → occ x us ≤ 4) (rec : (vs : List ℕ) → ((x : ℕ) → occ x vs ≤ 4) → Dec (Room vs ks)) where
   give : (b : ℕ) → Dec (Room (b ∷ us) ks)
   give b = elim (dec_lt (occ b us) 4) [
-    | yes l ↦ rec (b ∷ us) (λ x. elim (hit-cases x b) [ inl e ↦ rw e (omega (arith, hit-refl b)) | inr z ↦ omega (arith, h x) ])
+    | yes l ↦ rec (b ∷ us) (λ x. elim (hit-cases x b) [ inl e ↦ subst (λ (v : ℕ). occ v (b ∷ us) ≤ 4) (sym e) (omega (arith, hit-refl b)) | inr z ↦ omega (arith, h x) ])
     | no n ↦ no (λ r. n (omega (arith, r.2 b, hit-refl b)))
   ]
 
