@@ -11,7 +11,7 @@ use native.Mathlib.Nat.{zero-mul, mul-zero, mul-pos, zero-lt-suc}
 use native.Mathlib.Omega.{arith}
 use borrow.Author.Tests.{ne_eqb}
 use lib.Dec.{eqb}
-use lib.ListN.{get_or, take, drop, drop_of_length-le}
+use lib.ListN.{take, drop, drop_of_length-le}
 use lib.Seq.{get_or-take, get_or-drop}
 use Rattle.calls.specs.Cells.{cell, cells_of, first_holding, lowest_empty}
 

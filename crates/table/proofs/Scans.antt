@@ -16,7 +16,7 @@ use Rattle.lemmas.specs.Count.{hit, occ, ◌among◌}
 use Rattle.lemmas.specs.Sums.{total_once}
 use Rattle.lemmas.proofs.Count.{T_of, eqb-ne, occ-append, hit-cases, hit-refl}
 use Rattle.lemmas.proofs.Sums.{once-nil, once-new, once-again}
-use Rattle.calls.specs.Cells.{cell, Scan, scan, copies_at, lowest_at, or_else, in_first}
+use Rattle.calls.specs.Cells.{cell, scan, copies_at, lowest_at, or_else, in_first}
 use Rattle.calls.proofs.Laws.{scan-laws}
 
 -- ── the four tests of a bucket's cells, counted and in order ──

@@ -1,0 +1,38 @@
+use mathlib.Core.Path.{sym, ap, ◌∙◌}
+use native.Mathlib.Omega.{arith}
+use Rattle.index.specs.Answers.{tag_entry_is}
+use Rattle.calls.specs.Calls.{Sound}
+use Rattle.table.proofs.Guards.{home-inside}
+use Rattle.calls.proofs.Laws.{table-check-laws}
+use Rattle.table.proofs.Placing.{probe-refused, by-table, by-scratch, by-tag, probe-made}
+use Rattle.table.proofs.search.probe.Goals as goal
+
+pub returns-then-n-ne0 : goal.returns-then-n-ne0
+returns-then-n-ne0 c =
+    let a = c.args in
+    probe-refused a.s a.table.now a.scratch.now a.tag.now (by-table a.s a.table.now a.scratch.now a.tag.now c.table_refusal-n.ensures c.if-n-ne0.true)
+
+pub returns-then-scratch-buckets : goal.returns-then-scratch-buckets
+returns-then-scratch-buckets c =
+    let passes : Sound c.args.s c.args.table.now = (table-check-laws _ _).passed c.table_refusal-n.ensures c.if-n-ne0.false in
+    let a = c.args in
+    probe-refused a.s a.table.now a.scratch.now a.tag.now (by-scratch a.s a.table.now a.scratch.now a.tag.now passes (omega (arith, c.if-scratch-buckets.true)))
+
+pub returns-in-Refused : goal.returns-in-Refused
+returns-in-Refused c =
+    let passes : Sound c.args.s c.args.table.now = (table-check-laws _ _).passed c.table_refusal-n.ensures c.if-n-ne0.false in
+    let a = c.args in
+    probe-refused a.s a.table.now a.scratch.now a.tag.now (by-tag a.s a.table.now a.scratch.now a.tag.now passes c.if-scratch-buckets.false (sym (ap tag_entry_is c.in-Refused.is) ∙ c.entry_of.ensures))
+
+pub probe_entry-requires : goal.probe_entry-requires
+probe_entry-requires c =
+    let passes : Sound c.args.s c.args.table.now = (table-check-laws _ _).passed c.table_refusal-n.ensures c.if-n-ne0.false in
+    let S = passes in
+    record { sound = S; buckets_in_bounds = (c.if-scratch-buckets.false, home-inside _ _ _ S _ _ (sym (ap tag_entry_is c.in-At.is) ∙ c.entry_of.ensures)) }
+
+pub returns-in-At : goal.returns-in-At
+returns-in-At c =
+    let passes : Sound c.args.s c.args.table.now = (table-check-laws _ _).passed c.table_refusal-n.ensures c.if-n-ne0.false in
+    let a = c.args in
+    probe-made a.s a.table.now a.scratch.now a.tag.now passes c.if-scratch-buckets.false _ _ (sym (ap tag_entry_is c.in-At.is) ∙ c.entry_of.ensures)
+    c.probe_entry.result c.probe_entry.new.scratch c.probe_entry.ensures
