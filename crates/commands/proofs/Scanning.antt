@@ -54,9 +54,9 @@ module _ (l : List ℕ) (n : ℕ) (z : 0 < n) (g : n ≤ length l) where
   pub trim-stop : blank (get_or l (n - 1) 0) ≡ false → take n l ≡ trim_end (take n l)
   trim-stop e = last ∙ sym (ap trim_end last ∙ trim-solid (take (n - 1) l) (get_or l (n - 1) 0) e)
 
-pub trim_end : (l : List ℕ) (n : ℕ) → n ≤ 0 → take n l ≡ trim_end (take n l)
+pub trim-nothing : (l : List ℕ) (n : ℕ) → n ≤ 0 → take n l ≡ trim_end (take n l)
 unfolding trim_end
-trim_end l n g = rw p
+trim-nothing l n g = rw p
   where
     p : n ≡ 0
     p = omega arith
