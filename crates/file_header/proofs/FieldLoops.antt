@@ -55,7 +55,7 @@ fields-end ns m vs i h = ap (λ (l : List ℕ). field_bytes l m (drop i vs)) (dr
 -- the map, and the fields behind it
 pub header-parts : (s : Settings) (ns : List ℕ) (b m : ℕ) (vs : List ℕ) → ns ≡ sizes → b ≡ map_of s → m ≡ b → vs ≡ values_of s → header s ≡ (b ∷ []) ++ field_bytes ns m vs
 unfolding header
-header-parts s ns b m vs e f g h = rw (e, g, f, h) refl
+header-parts s ns b m vs e f g h = rw (g, f, h, e) refl
 
 -- an output that has no room for the header, and one that has
 module _ (s : Settings) (o : List ℕ) where
