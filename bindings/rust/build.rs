@@ -22,7 +22,7 @@ fn main() {
     if !archive.is_file() {
         stop(&format!(
             "there is no {}.\n\
-             Make it with `rt staticlib holdlist` at the top of the repository,\n\
+             Make it with `./build library` at the top of the repository,\n\
              or name the folder that has it in the environment variable HOLDLIST_LIB_DIR.",
             archive.display()
         ));

@@ -1,5 +1,5 @@
-//! Links the engine's archive: the one that `rt staticlib holdlist` writes, or that of the folder
-//! `HOLDLIST_LIB_DIR`. Tests get the one of `rt staticlib test_view` too.
+//! Links the engine's archive: the one that `./build library` writes, or that of the folder
+//! `HOLDLIST_LIB_DIR`. Tests get the one of `./build view` too.
 
 use std::env;
 use std::path::{Path, PathBuf};
@@ -16,7 +16,7 @@ fn main() {
     let archive = folder.join("libholdlist.a");
     assert!(
         archive.exists(),
-        "there is no {}: make it with 'rt staticlib holdlist'",
+        "there is no {}: make it with './build library'",
         archive.display()
     );
     println!("cargo:rerun-if-changed={}", archive.display());

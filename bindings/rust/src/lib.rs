@@ -65,7 +65,7 @@
 //!
 //! # The archive
 //!
-//! The archive `libholdlist.a` is made by `rt staticlib holdlist` at the top of the repository, for
+//! The archive `libholdlist.a` is made by `./build library` at the top of the repository, for
 //! x86-64 Linux. The build looks for it in the repository's `target/staticlib`, or in the folder
 //! that `HOLDLIST_LIB_DIR` names, such as `lib` below the folder that `./install` was given.
 #![warn(missing_docs)]
