@@ -1,4 +1,3 @@
-use borrow.Author.Rules.{rules}
 use Rattle.bucket_view.proofs.Checked.{view-stopped, view_out, view_in}
 use Rattle.calls.proofs.Laws.{table-check-laws}
 use Rattle.bucket_view.proofs.view_check.Goals as goal

@@ -1,11 +1,7 @@
-use Prim.Native.Nat.{◌+◌, ◌≤◌, ◌<◌}
-use borrow.Author.Rules.{rules}
+use Prim.Native.Nat.{◌+◌, ◌≤◌}
 use lib.ListN.{length}
-use mathlib.Core.Path.{◌≡◌, ap, ◌∙◌}
-use native.Mathlib.Omega.{arith}
-use Rattle.table.specs.Laws.{PathLaws}
-use Rattle.table.specs.Scratch.{parent_in, path_in}
-use Rattle.table.proofs.Laws.{path-laws}
+use mathlib.Core.Path.{◌≡◌}
+use Rattle.table.specs.Scratch.{path_in}
 use Rattle.forecast.proofs.path_moves.Given as goal
 
 -- the moves that are counted and those that are left are all

@@ -1,4 +1,3 @@
-use Rattle.std.proofs.Common.{rules}
 use Rattle.index.proofs.Ring.{across-ahead, across-around, across-behind, across-turned}
 use Rattle.index.proofs.across.Goals as goal
 

@@ -1,4 +1,4 @@
-use Rattle.std.proofs.Common.{◌-◌, sym, rules}
+use Rattle.std.proofs.Common.{◌-◌, sym}
 use Rattle.index.proofs.Good.{by-xor}
 use Rattle.index.proofs.barred_bits.Goals as goal
 

@@ -1,5 +1,4 @@
-use Rattle.std.proofs.Common.{rules}
-use Rattle.index.proofs.Answers.{Checked, bucket-stopped, bucket-out, bucket-in}
+use Rattle.index.proofs.Answers.{bucket-stopped, bucket-out, bucket-in}
 use Rattle.index.proofs.bucket_refusal.Goals as goal
 
 pub returns-then-n-ne0 : goal.returns-then-n-ne0

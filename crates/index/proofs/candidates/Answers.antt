@@ -1,4 +1,4 @@
-use Rattle.std.proofs.Common.{◌≡◌, ℕ, ◌≢◌, List, [], ◌∷◌, sym, refl, ap, ◌∙◌, arith, rules}
+use Rattle.std.proofs.Common.{◌≡◌, ℕ, ◌≢◌, List, [], ◌∷◌, sym, refl, ap, ◌∙◌, arith}
 use lib.Bits.{bit_and, bit_xor}
 use Rattle.refusals.specs.Outcomes.{given}
 use Rattle.index.proofs.Answers.{list-passed, list_inside, list-refused, list-given}

@@ -1,5 +1,5 @@
-use Rattle.std.proofs.Common.{inl, inr, pos_of_ne-zero, rules}
-use Rattle.index.proofs.Answers.{Checked, passed, entry_refused, entry-bad, entry_given}
+use Rattle.std.proofs.Common.{inl, inr, pos_of_ne-zero}
+use Rattle.index.proofs.Answers.{passed, entry_refused, entry-bad, entry_given}
 use Rattle.index.proofs.Computes.{print-of, home-of}
 use Rattle.index.proofs.entry_of.Goals as goal
 

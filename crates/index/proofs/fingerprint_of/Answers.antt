@@ -1,7 +1,7 @@
-use Rattle.std.proofs.Common.{arith, pow_pos, rules}
+use Rattle.std.proofs.Common.{arith, pow_pos}
 use Rattle.index.specs.Hash.{lower_half, fingerprint_of}
 use Rattle.index.proofs.Computes.{limit-shifted, print-small}
-use Rattle.index.proofs.Good.{Good, good, some-prints}
+use Rattle.index.proofs.Good.{good, some-prints}
 use Rattle.index.proofs.fingerprint_of.Goals as goal
 
 pub overflow_shl-prints : goal.overflow_shl-prints

@@ -1,4 +1,4 @@
-use Rattle.std.proofs.Common.{◌≡◌, ℕ, ◌+◌, ◌-◌, ◌<◌, ◌≤◌, length, drop, sym, refl, ap, ◌∙◌, arith}
+use Rattle.std.proofs.Common.{ℕ, ◌+◌, ◌<◌, length, drop, sym, ap, ◌∙◌, arith}
 use Rattle.index.proofs.Computes.{fnv-turn, fnv-end}
 use Rattle.index.specs.Hash.{fnv_from}
 use Rattle.index.proofs.fnv_from.Goals as goal

@@ -1,5 +1,4 @@
-use Rattle.std.proofs.Common.{◌≡◌, ℕ, ◌+◌, ◌-◌, ◌<◌, ◌≤◌, length, drop, sym, refl, ap, ◌∙◌, arith}
-use Rattle.index.proofs.Computes.{fnv-turn, fnv-end}
+use Rattle.std.proofs.Common.{◌≡◌, ◌-◌, ◌≤◌, length, drop}
 use Rattle.index.specs.Hash.{fnv_from}
 use Rattle.index.proofs.fnv_from.Given as goal
 

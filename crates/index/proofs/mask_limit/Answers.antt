@@ -1,4 +1,4 @@
-use Rattle.std.proofs.Common.{sym, arith, rules}
+use Rattle.std.proofs.Common.{sym, arith}
 use Rattle.index.proofs.Good.{by-pair}
 use Rattle.index.proofs.mask_limit.Goals as goal
 

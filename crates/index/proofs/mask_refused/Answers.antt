@@ -1,4 +1,3 @@
-use Rattle.std.proofs.Common.{rules}
 use Rattle.index.proofs.Refusals.{least-low, range-test}
 use Rattle.index.proofs.mask_refused.Goals as goal
 

@@ -1,4 +1,4 @@
-use Rattle.std.proofs.Common.{ℕ, not, eqb, ap, ◌∙◌, rules}
+use Rattle.std.proofs.Common.{ℕ, not, eqb, ap, ◌∙◌}
 use lib.Bits.{bit_and}
 use Rattle.index.proofs.Good.{form-test}
 use Rattle.index.proofs.misshapen.Goals as goal

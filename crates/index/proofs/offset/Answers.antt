@@ -1,5 +1,4 @@
-use Rattle.std.proofs.Common.{rules}
-use Rattle.index.proofs.Answers.{Checked, passed, offset-refused, offset-given}
+use Rattle.index.proofs.Answers.{passed, offset-refused, offset-given}
 use Rattle.index.proofs.offset.Goals as goal
 
 pub returns-then-n-ne0 : goal.returns-then-n-ne0

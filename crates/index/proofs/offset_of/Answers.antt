@@ -1,4 +1,3 @@
-use Rattle.std.proofs.Common.{rules}
 use Rattle.index.proofs.Computes.{offset-by-bytes}
 use Rattle.index.proofs.offset_of.Goals as goal
 

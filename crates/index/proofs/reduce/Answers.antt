@@ -1,7 +1,7 @@
-use Rattle.std.proofs.Common.{lt_trans, lt_of_le_of_lt, mod-lt, arith, rules}
+use Rattle.std.proofs.Common.{lt_trans, lt_of_le_of_lt, mod-lt, arith}
 use lib.Bits.{and_le_r}
 use Rattle.index.proofs.Computes.{ring-result, low_bits}
-use Rattle.index.proofs.Good.{Good, good}
+use Rattle.index.proofs.Good.{good}
 use Rattle.index.proofs.reduce.Goals as goal
 
 pub nonzero_rem-result : goal.nonzero_rem-result

@@ -1,4 +1,4 @@
-use Rattle.std.proofs.Common.{◌∙◌, rules}
+use Rattle.std.proofs.Common.{◌∙◌}
 use Rattle.index.proofs.Computes.{step_is}
 use Rattle.index.proofs.step.Goals as goal
 

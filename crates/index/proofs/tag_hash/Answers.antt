@@ -1,4 +1,4 @@
-use Rattle.std.proofs.Common.{ℕ, ap, ◌∙◌, rules}
+use Rattle.std.proofs.Common.{ℕ, ap, ◌∙◌}
 use Rattle.index.specs.Hash.{fnv_from, tag_hash}
 use Rattle.index.proofs.tag_hash.Goals as goal
 

@@ -1,5 +1,5 @@
-use Rattle.std.proofs.Common.{sym, ◌∙◌, rules}
-use Rattle.index.proofs.Refusals.{Before, from-two, from-three, past_one, past_two, past_three}
+use Rattle.std.proofs.Common.{sym, ◌∙◌}
+use Rattle.index.proofs.Refusals.{past_one, past_two, past_three}
 use Rattle.index.proofs.Refusals.{is_one, is-two-low, is-two-high, is-three-none, is-three-many, is-three-form}
 use Rattle.index.proofs.Settings.form_refusal.Goals as goal
 

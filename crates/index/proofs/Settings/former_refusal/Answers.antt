@@ -1,4 +1,3 @@
-use Rattle.std.proofs.Common.{rules}
 use Rattle.index.proofs.Refusals.{refused-before, form-passed, rule-low, is-four, is_none}
 use Rattle.index.proofs.Settings.former_refusal.Goals as goal
 

@@ -1,5 +1,3 @@
-use Rattle.std.proofs.Common.{rules}
-use Rattle.index.specs.Settings.{Representable}
 use Rattle.index.proofs.Answers.{checked-passed, checked_refused}
 use Rattle.index.proofs.Settings.new.Goals as goal
 

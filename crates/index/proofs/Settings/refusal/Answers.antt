@@ -1,4 +1,4 @@
-use Rattle.std.proofs.Common.{sym, ◌∙◌, rules}
+use Rattle.std.proofs.Common.{sym, ◌∙◌}
 use Rattle.index.proofs.Refusals.{refused-still, form-passed, rule-low, range-four, range_none}
 use Rattle.index.proofs.Settings.refusal.Goals as goal
 

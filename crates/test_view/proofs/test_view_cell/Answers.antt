@@ -1,11 +1,9 @@
-use borrow.Author.Rules.{rules}
 use mathlib.Core.Path.{◌≡◌, refl, sym, ap, ◌∙◌}
 use mathlib.Core.List.{List, [], ◌∷◌}
 use Prim.Native.Nat.{ℕ, zero, suc, ◌≤◌, ◌<◌}
 use native.Mathlib.Omega.{arith}
 use lib.ListN.{length, get_or, get_or-eq_default}
-use Rattle.test_view.proofs.test_view_cell.Statement.{statement}
-use Rattle.test_view.proofs.test_view_cell.Tie as tie
+use Rattle.test_view.proofs.test_view_cell.Goals as goal
 
 -- a place past the end has the default, and one before it the same whatever the default is
 past : {l m : List ℕ} (i d : ℕ) → l ≡ m → length l ≤ i → d ≡ get_or m i d
@@ -19,11 +17,8 @@ inside (x ∷ l) (suc i) d k h = inside l i d k (omega arith)
 there : {l m : List ℕ} (i d k : ℕ) → l ≡ m → i < length l → get_or l i d ≡ get_or m i k
 there {l} i d k e h = inside l i d k h ∙ ap (λ (x : List ℕ). get_or x i k) e
 
-returns : tie.Need-returns
-returns c = past _ _ c.before.view.ensures.values c.if1.true
+pub returns-then-k-part : goal.returns-then-k-part
+returns-then-k-part c = past _ _ c.view-part.ensures.values c.if-k-part.true
 
-returns-2 : tie.Need-returns-2
-returns-2 c = c.wide.ensures ∙ there _ _ _ c.before.before.before.view.ensures.values c.before.before.if1.false
-
-pub test-view-cell-spec : {M : Type 1} → statement M
-test-view-cell-spec = tie.close (tie.spec (λ c κs. search rules) returns (λ c. search rules) (λ c. search rules) (λ c κs. search rules) returns-2)
+pub returns : goal.returns
+returns c = c.wide.ensures ∙ there _ _ _ c.view-part.ensures.values c.if-k-part.false
