@@ -205,6 +205,10 @@ module _ {s : Settings} {c : List ℕ} (P : Packable s c) where
     room-few : room < 2 ^ 32
     room-few = omega (arith, room-is, half-bits w m, half-fits w m W.high (laws s P.sound.settings).few_buckets)
 
+    -- the place of a bucket that is left over
+    pub place-fits : (1 ≤ w) × ((w - 1) * (m / 2) ≤ room) × (room < 2 ^ 32)
+    place-fits = (omega (arith, W.low), omega (arith, room-is, pairs-within w m (m / 2) (omega arith)), room-few)
+
     pub run_fits : {counts out : List ℕ} (from to : ℕ) (words : Bool) → counts ≡ larger → room ≤ length out → from ≤ to → 2 * to ≤ m
         → (words ≡ true → 2 * to ≤ m - 4) → RunFits counts w c room from to words out
     run_fits from to words e enough order within ahead = record {

@@ -1,0 +1,12 @@
+use Prim.Native.Nat.{◌≤◌, ◌-◌, ◌*◌, ◌/◌, ◌^◌}
+use lib.ListN.{drop}
+use mathlib.Core.List.{◌++◌}
+use mathlib.Core.Path.{◌≡◌}
+use Rattle.lemmas.specs.Bytes.{bytes_of}
+use Rattle.packed.proofs.emit.Given as goal
+
+abbrev pub invariant-loop-i : goal.invariant-loop-i
+invariant-loop-i l = (l.i ≤ l.count) × (l.x ≡ l.word / 2 ^ (8 * l.i)) × (l.part ≡ bytes_of l.i l.word ++ drop l.i l.initial.part)
+
+abbrev pub decreases-loop-i : goal.decreases-loop-i
+decreases-loop-i l = l.count - l.i

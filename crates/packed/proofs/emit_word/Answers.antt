@@ -1,0 +1,28 @@
+use lib.ListN.{length-set}
+use native.Mathlib.Omega.{arith}
+use Rattle.packed.proofs.Bytes.{put-eight}
+use Rattle.packed.proofs.emit_word.Goals as goal
+
+pub bounds-part-1 : goal.bounds-part-1
+bounds-part-1 c = simp length-set (omega arith)
+
+pub bounds-part-2 : goal.bounds-part-2
+bounds-part-2 c = simp length-set (omega arith)
+
+pub bounds-part-3 : goal.bounds-part-3
+bounds-part-3 c = simp length-set (omega arith)
+
+pub bounds-part-4 : goal.bounds-part-4
+bounds-part-4 c = simp length-set (omega arith)
+
+pub bounds-part-5 : goal.bounds-part-5
+bounds-part-5 c = simp length-set (omega arith)
+
+pub bounds-part-6 : goal.bounds-part-6
+bounds-part-6 c = simp length-set (omega arith)
+
+pub bounds-part-7 : goal.bounds-part-7
+bounds-part-7 c = simp length-set (omega arith)
+
+pub returns : goal.returns
+returns c = put-eight c.args.part.now c.args.word c.ranges.word.fits c.requires
