@@ -2,27 +2,25 @@
 -- Assumes nothing.
 use mathlib.Core.Path.{◌≡◌, refl, sym, ap, ap₂, ◌∙◌, subst}
 use mathlib.Core.Logic.{◌≢◌}
-use mathlib.Core.Bool.{Bool, true, false, not, cond, ◌||◌, ◌&&◌}
+use mathlib.Core.Bool.{Bool, true, false, cond, ◌||◌, ◌&&◌}
 use mathlib.Core.Option.{Option, none}
 use mathlib.Core.List.{List, [], ◌∷◌, ◌++◌, append_assoc, append-nil}
 use Prim.Native.Nat.{ℕ, zero, suc, ◌+◌, ◌*◌, ◌-◌, ◌^◌, ◌≤◌, ◌<◌}
 use native.Mathlib.Numerals.{add-one}
 use native.Mathlib.Omega.{arith}
-use native.Mathlib.Decide.{dec_le}
 use borrow.Author.Tests.{le-leb, lt-leb, leb-true, leb-false}
 use lib.Dec.{eqb, leb}
 use borrow.Rule.Slice.PartMut.{mid_of, post_of, put_mid, mid_len, same_len_mid}
 use lib.ListN.{length, take, drop, get_or, set, length-append, drop_of_length-le}
 use lib.Seq.{drop-cons, take_at, take_all, length-take-le}
-use Rattle.lemmas.proofs.Bools.{or-false-left, or-false-right}
-use Rattle.holdfile.proofs.Writing.{cond-le}
+use Rattle.lemmas.proofs.Bools.{or-false-right}
 use Rattle.refusals.specs.Checks.{Check, first_met, number_of}
 use Rattle.refusals.specs.Outcomes.{Done, done, Outcome, keeping}
 use Rattle.refusals.proofs.Cursor.{number-met}
 use Rattle.index.specs.declared.Settings.{Settings}
 use Rattle.holdfile.specs.declared.Field.{Field}
 use Rattle.holdfile.specs.declared.Pass.{Pass}
-use Rattle.holdfile.specs.Internal.{field_is, take_print, number_in, place_in, Taken, pass_is, end_of, GivesCells, cells_read, Kept}
+use Rattle.holdfile.specs.Internal.{field_is, take_print, number_in, place_in, Taken, end_of, GivesCells, cells_read, Kept}
 use Rattle.file_form.specs.Bytes.{bit0, bit1, bit2, bit3}
 use Rattle.file_form.specs.Parsed.{Parsed, stop, next, and_then, refuse_if, checked, answer_of}
 use Rattle.file_form.proofs.Laws.{in_front, in-front-append}
