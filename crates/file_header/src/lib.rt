@@ -115,6 +115,7 @@ fn map_of(s: Settings) -> u8
 }
 
 // The map's own tests, 0 where it passes. Below 64 bit 5 stands exactly from 32 on.
+#[tactic(auto, unfolding(file_form::specs::Header::map_checks))]
 fn map_refusal(map: u64) -> u32
     ensures { result ≡ number_of (first_met (map_checks map)) }
 {
