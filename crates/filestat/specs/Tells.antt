@@ -1,6 +1,6 @@
 -- What the crate's contracts cite. Each is an `abbrev`, so that a caller's proof can use what it says. Assumes nothing.
 use Rattle.std.specs.Prelude.{ℕ, ◌<◌, ◌≡◌, true, false, List, length, get_or}
-use Rattle.libc.specs.declared.types.stat.{stat}
+use Rattle.filestat.specs.declared.Stat.{Stat}
 use Rattle.filestat.specs.declared.FileStatus.{FileStatus}
 
 -- no byte is 0
@@ -12,7 +12,7 @@ abbrev pub IsPath : List ℕ → Type 0
 IsPath bytes = (length bytes < 4096) × NoZero bytes
 
 -- what is told of the file that st describes
-abbrev pub Tells : stat → FileStatus → Type 0
+abbrev pub Tells : Stat → FileStatus → Type 0
 Tells st r = (r.found ≡ true) × ((r.mode ≡ st.st_mode) × ((r.owner ≡ st.st_uid) × (r.group ≡ st.st_gid)))
 
 -- nothing is told

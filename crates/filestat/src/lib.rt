@@ -1,13 +1,24 @@
 // What stands at a path: its kind, its rights, its owner and its group.
 #![tactic(auto)]
 
-ghost use Rattle.std.specs.Prelude.{◌≡◌, false, pos};
-ghost use Rattle.libc.specs.Io.{Ended};
+ghost use Rattle.std.specs.Prelude.{◌≡◌, false, IfOk, IfErr};
+ghost use Rattle.std.specs.Fs.{metadata_mode};
 ghost use Rattle.filestat.specs.Tells.{NoZero, IsPath, Tells, Silent};
 
-use libc::{PATH_MAX, types};
+use std::fs::{Metadata, symlink_metadata};
+use std::io;
+use std::os::unix::fs::MetadataExt;
+use std::rt::Files;
 
-const LAST: usize = PATH_MAX - 1;
+// The room that the system has for a path, with a 0 at its end.
+const PATH_MAX: usize = 4096;
+
+// The system's numbers of errors that are told without asking it.
+const EIO: i32 = 5;
+
+const EINVAL: i32 = 22;
+
+const ENAMETOOLONG: i32 = 36;
 
 #[derive(Clone, Copy)]
 pub struct FileStatus {
@@ -18,52 +29,82 @@ pub struct FileStatus {
     // The numbers of the user and of the group that own it.
     pub owner: u32,
     pub group: u32,
-    // 0, or the number of the error, as libc::ENOENT.
+    // 0, or the number of the error, as 2 where there is no such file.
     pub error: i32,
 }
 
+// What the system says of a file, as far as it is told on.
+#[derive(Clone, Copy)]
+struct Stat {
+    st_mode: u32,
+    st_uid: u32,
+    st_gid: u32,
+}
+
 // What stands at the path. Of a link it tells of the link itself, and nothing is opened, so a pipe
-// or a device is left alone. A path that is too long, or that has a byte 0, is not found.
-pub fn status(path: &[u8]) -> FileStatus
+// or a device is left alone. A path that is too long, that has a byte 0, or that is no text in UTF-8,
+// is not found.
+pub fn status(files: &impl Files, path: &[u8]) -> FileStatus
     ensures silent { result.found ≡ false → Silent result }
     ensures silent_2 { (IsPath path.now → ⊥) → Silent result }
 {
+    match path_text(path) {
+        Ok(text) => at_path(files, text),
+        Err(error) => missing(error),
+    }
+}
+
+// The path as the system takes it, or the number of the error. All of it can be handed to C, with a 0
+// at its end.
+pub fn path_text(path: &[u8]) -> Result<&str, i32>
+    ensures whole { IfOk result (λ text. text.now ≡ path.now) }
+    ensures is_path { IfOk result (λ text. IsPath text.now) }
+{
     if path.len() >= PATH_MAX {
-        return missing(libc::ENAMETOOLONG);
+        return Err(ENAMETOOLONG);
     }
     if has_zero(path) {
-        return missing(libc::EINVAL);
+        return Err(EINVAL);
     }
-    let whole = ended(path);
-    let st = blank();
-    let told = at_path(&whole, st);
-    with_error(told)
+    match str::from_utf8(path) {
+        Ok(text) => Ok(text),
+        Err(_) => Err(EINVAL),
+    }
 }
 
-// The one function that lends a struct by reference. The borrow checker does not cover that, so it is
-// proved by hand, and holds as little as can be.
-
-fn at_path(path: &[u8; PATH_MAX], mut st: types::stat) -> FileStatus
-    requires { Ended path.now }
+fn at_path(files: &impl Files, path: &str) -> FileStatus
+    ensures { result.found ≡ false → Silent result }
 {
-    let got = libc::lstat(path, &mut st);
-    told(got, st)
+    match symlink_metadata(files, path) {
+        Ok(m) => told(Ok(stat_of(&m))),
+        Err(e) => told(Err(error_number(&e))),
+    }
 }
 
-// What the call answered, and what it put in st.
-fn told(got: i32, st: types::stat) -> FileStatus
-    ensures tells { got ≡ pos 0 → Tells st result }
-    ensures silent { (got ≡ pos 0 → ⊥) → Silent result }
+fn stat_of(m: &Metadata) -> Stat
+    ensures { result.st_mode ≡ metadata_mode m.now }
 {
-    if got != 0 {
-        return missing(0);
+    Stat {
+        st_mode: m.mode(),
+        st_uid: m.uid(),
+        st_gid: m.gid(),
     }
-    FileStatus {
-        found: true,
-        mode: st.st_mode,
-        owner: st.st_uid,
-        group: st.st_gid,
-        error: 0,
+}
+
+// What the call answered: what it says of the file, or its error.
+fn told(got: Result<Stat, i32>) -> FileStatus
+    ensures tells { IfOk got (λ st. Tells st result) }
+    ensures silent { IfErr got (λ error. Silent result × (result.error ≡ error)) }
+{
+    match got {
+        Ok(st) => FileStatus {
+            found: true,
+            mode: st.st_mode,
+            owner: st.st_uid,
+            group: st.st_gid,
+            error: 0,
+        },
+        Err(error) => missing(error),
     }
 }
 
@@ -79,39 +120,11 @@ fn missing(error: i32) -> FileStatus
     }
 }
 
-// Puts the error in, of a call that has just failed.
-fn with_error(s: FileStatus) -> FileStatus
-    ensures { result.found ≡ false → Silent result }
-{
-    if s.found {
-        return s;
-    }
-    missing(os::errno())
-}
-
-// A struct for the system to fill.
-fn blank() -> types::stat {
-    let time = types::timespec {
-        tv_sec: 0,
-        tv_nsec: 0,
-    };
-    let unused = [0i64; 3];
-    types::stat {
-        st_dev: 0,
-        st_ino: 0,
-        st_nlink: 0,
-        st_mode: 0,
-        st_uid: 0,
-        st_gid: 0,
-        __pad: 0,
-        st_rdev: 0,
-        st_size: 0,
-        st_blksize: 0,
-        st_blocks: 0,
-        st_atim: time,
-        st_mtim: time,
-        st_ctim: time,
-        __unused: unused,
+// The system's number of an error. One that it gave no number counts as a failure of the disk.
+pub fn error_number(e: &io::Error) -> i32 {
+    match e.raw_os_error() {
+        Some(number) if number != 0 => number,
+        _ => EIO,
     }
 }
 
@@ -126,21 +139,4 @@ fn has_zero(path: &[u8]) -> bool
         i += 1;
     }
     false
-}
-
-// As much of path as leaves room for a 0, and then zeros: what C takes for a path.
-fn ended(path: &[u8]) -> [u8; PATH_MAX]
-    ensures { Ended result }
-{
-    let mut whole = io::buffer();
-    let mut i = 0;
-    while i < path.len() {
-        if i >= LAST {
-            break;
-        }
-        whole[i] = path[i];
-        i += 1;
-    }
-    whole[LAST] = 0;
-    whole
 }

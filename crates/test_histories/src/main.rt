@@ -15,11 +15,11 @@
 //     cells                       all cells that are lent, or their hash where they are many
 #![tactic(auto)]
 
-ghost use Rattle.std.specs.Prelude.{◌≡◌, ◌+◌, ◌≤◌, min, length};
-ghost use Rattle.io.specs.Counts.{IsPrefixLen};
+ghost use Rattle.std.specs.Prelude.{◌≡◌, ◌+◌, ◌≤◌, min, length, IfOk};
 
 use digits::{Typed, hex_value};
-use libc::{STDIN_FILENO, STDOUT_FILENO};
+use std::io;
+use std::io::{BufWriter, Read, Write};
 
 // A number, and where the field after it starts.
 #[derive(Clone, Copy)]
@@ -104,20 +104,16 @@ fn to_u16(n: u64) -> u16 {
     if n > 65535 { 65535 } else { n as u16 }
 }
 
-fn wide(x: u16) -> u64 {
-    x as u64
-}
-
 // How many of the cells are lent where a request names n.
 fn least_cells(n: usize, cells: &[u16]) -> usize
-    ensures { IsPrefixLen result cells.now }
+    ensures { result ≤ length cells.now }
 {
     if n < cells.len() { n } else { cells.len() }
 }
 
 // The same for words.
 fn least_words(n: usize, words: &[u32]) -> usize
-    ensures { IsPrefixLen result words.now }
+    ensures { result ≤ length words.now }
 {
     if n < words.len() { n } else { words.len() }
 }
@@ -126,7 +122,7 @@ fn least_words(n: usize, words: &[u32]) -> usize
 // answers how many there are.
 fn bytes_at(s: &[u8], at: usize, out: &mut [u8]) -> usize
     requires { at ≤ length s.now }
-    ensures { IsPrefixLen result out.new }
+    ensures { result ≤ length out.new }
 {
     let mut n = 0;
     let mut i = at;
@@ -218,30 +214,28 @@ fn lent_at(s: &[u8], at: usize) -> Lent
     }
 }
 
-fn print(text: &[u8]) {
-    io::write_all(STDOUT_FILENO, text);
-}
-
 // The text, and the number after it.
-fn print_with(text: &[u8], n: u64) {
-    io::write_all(STDOUT_FILENO, text);
-    io::print_decimal(STDOUT_FILENO, n);
+fn print_with(out: &mut impl Write, text: &[u8], n: u64) -> io::Result<()> {
+    out.write_all(text)?;
+    write!(out, "{n}")
 }
 
-fn print_refusal(n: u32) {
-    print_with(b"refused ", n as u64);
+fn print_refusal(out: &mut impl Write, n: u32) -> io::Result<()> {
+    write!(out, "refused {n}")
 }
 
 // The cells with a space between.
-fn print_cells(cells: &[u16]) {
+fn print_cells(out: &mut impl Write, cells: &[u16]) -> io::Result<()> {
     let mut i: usize = 0;
     while i < cells.len() {
         if i > 0 {
-            print(b" ");
+            out.write_all(b" ")?;
         }
-        io::print_decimal(STDOUT_FILENO, wide(cells[i]));
+        let cell = cells[i];
+        write!(out, "{cell}")?;
         i += 1;
     }
+    Ok(())
 }
 
 fn hash_of_cells(cells: &[u16]) -> u64 {
@@ -254,12 +248,12 @@ fn hash_of_cells(cells: &[u16]) -> u64 {
     h
 }
 
-fn answer_cells(cells: &[u16]) {
+fn answer_cells(out: &mut impl Write, cells: &[u16]) -> io::Result<()> {
     if cells.len() <= 64 {
-        print_cells(cells);
-    } else {
-        io::print_hex(STDOUT_FILENO, hash_of_cells(cells), 16);
+        return print_cells(out, cells);
     }
+    let hash = hash_of_cells(cells);
+    write!(out, "{hash:016x}")
 }
 
 fn fill(words: &mut [u32], value: u32) {
@@ -272,61 +266,82 @@ fn fill(words: &mut [u32], value: u32) {
     }
 }
 
-fn answer_dirt(words: &mut [u32], value: u32) {
+fn answer_dirt(out: &mut impl Write, words: &mut [u32], value: u32) -> io::Result<()> {
     fill(words, value);
-    print(b"dirt");
+    out.write_all(b"dirt")
 }
 
-fn answer_set(cells: &mut [u16], cell: u64, value: u16) {
+fn answer_set(out: &mut impl Write, cells: &mut [u16], cell: u64, value: u16) -> io::Result<()> {
     let i = cell as usize;
     if i < cells.len() {
         cells[i] = value;
-        print(b"set");
+        out.write_all(b"set")
     } else {
-        print(b"none");
+        out.write_all(b"none")
     }
 }
 
-fn answer_clear(s: index::Settings, cells: &mut [u16]) {
+fn answer_clear(out: &mut impl Write, s: index::Settings, cells: &mut [u16]) -> io::Result<()> {
     let answer = table::clear(s, cells);
     match answer {
-        table::ClearAnswer::Cleared => print(b"cleared"),
-        table::ClearAnswer::Refused(n) => print_refusal(n),
+        table::ClearAnswer::Cleared => out.write_all(b"cleared"),
+        table::ClearAnswer::Refused(n) => print_refusal(out, n),
     }
 }
 
-fn answer_hold(s: index::Settings, cells: &mut [u16], words: &mut [u32], tag: &[u8]) {
+fn answer_hold(
+    out: &mut impl Write,
+    s: index::Settings,
+    cells: &mut [u16],
+    words: &mut [u32],
+    tag: &[u8],
+) -> io::Result<()> {
     let answer = table::hold(s, cells, words, tag);
     match answer {
-        table::HoldAnswer::Accepted(moves) => print_with(b"accepted ", moves as u64),
-        table::HoldAnswer::Refused(n) => print_refusal(n),
+        table::HoldAnswer::Accepted(moves) => print_with(out, b"accepted ", moves as u64),
+        table::HoldAnswer::Refused(n) => print_refusal(out, n),
     }
 }
 
-fn answer_release(s: index::Settings, cells: &mut [u16], tag: &[u8]) {
+fn answer_release(
+    out: &mut impl Write,
+    s: index::Settings,
+    cells: &mut [u16],
+    tag: &[u8],
+) -> io::Result<()> {
     let answer = table::release(s, cells, tag);
     match answer {
-        table::ReleaseAnswer::Released => print(b"released"),
-        table::ReleaseAnswer::Absent => print(b"absent"),
-        table::ReleaseAnswer::Refused(n) => print_refusal(n),
+        table::ReleaseAnswer::Released => out.write_all(b"released"),
+        table::ReleaseAnswer::Absent => out.write_all(b"absent"),
+        table::ReleaseAnswer::Refused(n) => print_refusal(out, n),
     }
 }
 
-fn answer_lookup(s: index::Settings, cells: &[u16], tag: &[u8]) {
+fn answer_lookup(
+    out: &mut impl Write,
+    s: index::Settings,
+    cells: &[u16],
+    tag: &[u8],
+) -> io::Result<()> {
     let answer = table::lookup(s, cells, tag);
     match answer {
-        table::LookupAnswer::Copies(copies) => print_with(b"copies ", copies as u64),
-        table::LookupAnswer::Refused(n) => print_refusal(n),
+        table::LookupAnswer::Copies(copies) => print_with(out, b"copies ", copies as u64),
+        table::LookupAnswer::Refused(n) => print_refusal(out, n),
     }
 }
 
 // A refused view is empty, so that nothing comes after the number.
-fn answer_view(s: index::Settings, cells: &[u16], bucket: u32) {
+fn answer_view(
+    out: &mut impl Write,
+    s: index::Settings,
+    cells: &[u16],
+    bucket: u32,
+) -> io::Result<()> {
     let n = bucket_view::view_check(s, cells, bucket);
     if n != 0 {
-        print_refusal(n);
+        print_refusal(out, n)?;
     }
-    print_cells(bucket_view::view(s, cells, bucket));
+    print_cells(out, bucket_view::view(s, cells, bucket))
 }
 
 // One more hold in what the holds said.
@@ -375,14 +390,21 @@ fn hold_all(
     t
 }
 
-fn answer_holds(s: index::Settings, cells: &mut [u16], words: &mut [u32], seed: u64, count: u64) {
+fn answer_holds(
+    out: &mut impl Write,
+    s: index::Settings,
+    cells: &mut [u16],
+    words: &mut [u32],
+    seed: u64,
+    count: u64,
+) -> io::Result<()> {
     let t = hold_all(s, cells, words, seed, count);
-    print_with(b"accepted ", t.accepted);
-    print_with(b" refused ", t.refused);
-    print_with(b" moves ", t.moves);
-    print_with(b" longest ", t.longest as u64);
-    print(b" hash ");
-    io::print_hex(STDOUT_FILENO, t.hash, 16);
+    print_with(out, b"accepted ", t.accepted)?;
+    print_with(out, b" refused ", t.refused)?;
+    print_with(out, b" moves ", t.moves)?;
+    print_with(out, b" longest ", t.longest as u64)?;
+    let hash = t.hash;
+    write!(out, " hash {hash:016x}")
 }
 
 fn with_yes(t: Counted) -> Counted {
@@ -447,10 +469,10 @@ fn with_lookup(t: Counted, answer: table::LookupAnswer) -> Counted {
     }
 }
 
-fn print_counted(yes: &[u8], no: &[u8], t: Counted) {
-    print_with(yes, t.yes);
-    print_with(no, t.no);
-    print_with(b" refused ", t.refused);
+fn print_counted(out: &mut impl Write, yes: &[u8], no: &[u8], t: Counted) -> io::Result<()> {
+    print_with(out, yes, t.yes)?;
+    print_with(out, no, t.no)?;
+    print_with(out, b" refused ", t.refused)
 }
 
 fn release_all(s: index::Settings, cells: &mut [u16], seed: u64, count: u64) -> Counted {
@@ -481,84 +503,106 @@ fn lookup_all(s: index::Settings, cells: &[u16], seed: u64, count: u64) -> Count
     t
 }
 
-fn answer_releases(s: index::Settings, cells: &mut [u16], seed: u64, count: u64) {
+fn answer_releases(
+    out: &mut impl Write,
+    s: index::Settings,
+    cells: &mut [u16],
+    seed: u64,
+    count: u64,
+) -> io::Result<()> {
     let t = release_all(s, cells, seed, count);
-    print_counted(b"released ", b" absent ", t);
+    print_counted(out, b"released ", b" absent ", t)
 }
 
-fn answer_lookups(s: index::Settings, cells: &[u16], seed: u64, count: u64) {
+fn answer_lookups(
+    out: &mut impl Write,
+    s: index::Settings,
+    cells: &[u16],
+    seed: u64,
+    count: u64,
+) -> io::Result<()> {
     let t = lookup_all(s, cells, seed, count);
-    print_with(b"copies ", t.copies);
-    print_counted(b" held ", b" clear ", t);
+    print_with(out, b"copies ", t.copies)?;
+    print_counted(out, b" held ", b" clear ", t)
 }
 
 // A request on many tags, or on all cells: its first letter tells its kind.
 fn answer_many(
+    out: &mut impl Write,
     s: index::Settings,
     cells: &mut [u16],
     words: &mut [u32],
     kind: u8,
     line: &[u8],
     at: usize,
-)
+) -> io::Result<()>
     requires { at ≤ length line.now }
 {
     let seed = number_at(line, at);
     let count = number_at(line, seed.next);
     match kind {
-        b'h' => answer_holds(s, cells, words, seed.value, count.value),
-        b'r' => answer_releases(s, cells, seed.value, count.value),
-        b'l' => answer_lookups(s, cells, seed.value, count.value),
-        b'c' => answer_cells(cells),
-        _ => {}
+        b'h' => answer_holds(out, s, cells, words, seed.value, count.value),
+        b'r' => answer_releases(out, s, cells, seed.value, count.value),
+        b'l' => answer_lookups(out, s, cells, seed.value, count.value),
+        b'c' => answer_cells(out, cells),
+        _ => Ok(()),
     }
 }
 
 // A request on one tag: its first letter tells its kind.
 fn answer_tag(
+    out: &mut impl Write,
     s: index::Settings,
     cells: &mut [u16],
     words: &mut [u32],
     kind: u8,
     line: &[u8],
     at: usize,
-)
+) -> io::Result<()>
     requires { at ≤ length line.now }
 {
-    let mut bytes = io::buffer();
+    let mut bytes = [0u8; 4096];
     let n = bytes_at(line, at, &mut bytes);
     match kind {
-        b'h' => answer_hold(s, cells, words, &bytes[..n]),
-        b'r' => answer_release(s, cells, &bytes[..n]),
-        b'l' => answer_lookup(s, cells, &bytes[..n]),
-        _ => {}
+        b'h' => answer_hold(out, s, cells, words, &bytes[..n]),
+        b'r' => answer_release(out, s, cells, &bytes[..n]),
+        b'l' => answer_lookup(out, s, cells, &bytes[..n]),
+        _ => Ok(()),
     }
 }
 
 // A request on one thing: its first letter tells its kind.
 fn answer_one(
+    out: &mut impl Write,
     s: index::Settings,
     cells: &mut [u16],
     words: &mut [u32],
     kind: u8,
     line: &[u8],
     at: usize,
-)
+) -> io::Result<()>
     requires { at ≤ length line.now }
 {
     let first = number_at(line, at);
     let second = number_at(line, first.next);
     match kind {
-        b'd' => answer_dirt(words, to_u32(first.value)),
-        b's' => answer_set(cells, first.value, to_u16(second.value)),
-        b'c' => answer_clear(s, cells),
-        b'v' => answer_view(s, cells, to_u32(first.value)),
-        _ => answer_tag(s, cells, words, kind, line, at),
+        b'd' => answer_dirt(out, words, to_u32(first.value)),
+        b's' => answer_set(out, cells, first.value, to_u16(second.value)),
+        b'c' => answer_clear(out, s, cells),
+        b'v' => answer_view(out, s, cells, to_u32(first.value)),
+        _ => answer_tag(out, s, cells, words, kind, line, at),
     }
 }
 
 // Any request but `open`. Its word stops at `end`, and if it ends in s, it stands for many.
-fn answer_call(lent: Lent, cells: &mut [u16], words: &mut [u32], line: &[u8], end: usize)
+fn answer_call(
+    out: &mut impl Write,
+    lent: Lent,
+    cells: &mut [u16],
+    words: &mut [u32],
+    line: &[u8],
+    end: usize,
+) -> io::Result<()>
     requires { (1 ≤ end) × (end ≤ length line.now) }
 {
     let kind = line[0];
@@ -568,40 +612,53 @@ fn answer_call(lent: Lent, cells: &mut [u16], words: &mut [u32], line: &[u8], en
     let w = least_words(lent.words, words);
     if last == b's' {
         answer_many(
+            out,
             lent.settings,
             &mut cells[..n],
             &mut words[..w],
             kind,
             line,
             at,
-        );
+        )
     } else {
         answer_one(
+            out,
             lent.settings,
             &mut cells[..n],
             &mut words[..w],
             kind,
             line,
             at,
-        );
+        )
     }
 }
 
 // Answers a request, and says what is lent from then on.
-fn answer(line: &[u8], lent: Lent, cells: &mut [u16], words: &mut [u32]) -> Lent {
+fn answer(
+    out: &mut impl Write,
+    line: &[u8],
+    lent: Lent,
+    cells: &mut [u16],
+    words: &mut [u32],
+) -> io::Result<Lent> {
     let end = find(line, 0, b' ');
     if end == 0 {
-        return lent;
+        return Ok(lent);
     }
     if line[0] == b'o' {
-        print(b"open");
-        return lent_at(line, past(line, end));
+        out.write_all(b"open")?;
+        return Ok(lent_at(line, past(line, end)));
     }
-    answer_call(lent, cells, words, line, end);
-    lent
+    answer_call(out, lent, cells, words, line, end)?;
+    Ok(lent)
 }
 
-fn answer_lines(s: &[u8], cells: &mut [u16], words: &mut [u32]) {
+fn answer_lines(
+    out: &mut impl Write,
+    s: &[u8],
+    cells: &mut [u16],
+    words: &mut [u32],
+) -> io::Result<()> {
     let mut lent = Lent {
         settings: index::Settings::defaults(),
         cells: 0,
@@ -611,17 +668,39 @@ fn answer_lines(s: &[u8], cells: &mut [u16], words: &mut [u32]) {
     while at < s.len() {
         let end = find(s, at, b'\n');
         let line = &s[at..end];
-        print(line);
-        print(b" = ");
-        lent = answer(line, lent, cells, words);
-        print(b"\n");
+        out.write_all(line)?;
+        out.write_all(b" = ")?;
+        lent = answer(out, line, lent, cells, words)?;
+        out.write_all(b"\n")?;
         at = past(s, end);
     }
+    Ok(())
 }
 
-fn answer_all(space: &mut [u8], cells: &mut [u16], words: &mut [u32]) {
-    let n = io::read_full(STDIN_FILENO, space);
-    answer_lines(&space[..n], cells, words);
+// Reads until there is no more room, or to the end of the input.
+fn read_full(input: &mut impl Read, space: &mut [u8]) -> io::Result<usize>
+    ensures { IfOk result (λ n. n ≤ length space.new) }
+{
+    let mut n = 0;
+    while n < space.len() {
+        let more = input.read(&mut space[n..])?;
+        if more == 0 {
+            break;
+        }
+        n += more;
+    }
+    Ok(n)
+}
+
+fn answer_all(
+    input: &mut impl Read,
+    out: &mut impl Write,
+    space: &mut [u8],
+    cells: &mut [u16],
+    words: &mut [u32],
+) -> io::Result<()> {
+    let n = read_full(input, space)?;
+    answer_lines(out, &space[..n], cells, words)
 }
 
 // Space for the requests, the cells and the scratch. Lending it as a slice needs its length and
@@ -644,9 +723,17 @@ fn word_space() -> [u32; 131072]
     [0; 131072]
 }
 
-fn main() {
+fn main(rt: HostRuntime) -> io::Result<()> {
     let mut requests = request_space();
     let mut cells = cell_space();
     let mut words = word_space();
-    answer_all(&mut requests, &mut cells, &mut words);
+    let mut out = BufWriter::new(rt.alloc(), rt.stdout())?;
+    answer_all(
+        &mut rt.stdin(),
+        &mut out,
+        &mut requests,
+        &mut cells,
+        &mut words,
+    )?;
+    out.flush()
 }

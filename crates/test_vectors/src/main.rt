@@ -8,11 +8,11 @@
 //     candidates RULE WIDTH BUCKETS MASK SALT VALUE BUCKET
 #![tactic(auto)]
 
-ghost use Rattle.std.specs.Prelude.{◌≡◌, ◌≤◌, length};
-ghost use Rattle.io.specs.Counts.{IsPrefixLen};
+ghost use Rattle.std.specs.Prelude.{◌≡◌, ◌≤◌, length, IfOk};
 
 use digits::{Typed, hex_value};
-use libc::{STDIN_FILENO, STDOUT_FILENO};
+use std::io;
+use std::io::{BufWriter, Read, Write};
 
 // A number, and where the field after it starts.
 #[derive(Clone, Copy)]
@@ -114,7 +114,7 @@ fn settings_at(s: &[u8], at: usize) -> Given
 // answers how many there are.
 fn bytes_at(s: &[u8], at: usize, out: &mut [u8]) -> usize
     requires { at ≤ length s.now }
-    ensures { IsPrefixLen result out.new }
+    ensures { result ≤ length out.new }
 {
     let mut n = 0;
     let mut i = at;
@@ -129,90 +129,74 @@ fn bytes_at(s: &[u8], at: usize, out: &mut [u8]) -> usize
     n
 }
 
-fn print_refusal(n: u32) {
-    io::write_all(STDOUT_FILENO, b"refused ");
-    io::print_decimal(STDOUT_FILENO, n as u64);
+fn print_refusal(out: &mut impl Write, n: u32) -> io::Result<()> {
+    write!(out, "refused {n}")
 }
 
-fn answer_hash(s: &[u8], at: usize)
+fn answer_hash(out: &mut impl Write, s: &[u8], at: usize) -> io::Result<()>
     requires { at ≤ length s.now }
 {
-    let mut bytes = io::buffer();
+    let mut bytes = [0u8; 4096];
     let n = bytes_at(s, at, &mut bytes);
-    io::print_hex(STDOUT_FILENO, index::fnv1a(&bytes[..n]), 16);
+    let hash = index::fnv1a(&bytes[..n]);
+    write!(out, "{hash:016x}")
 }
 
-fn answer_settings(s: &[u8], at: usize)
+fn answer_settings(out: &mut impl Write, s: &[u8], at: usize) -> io::Result<()>
     requires { at ≤ length s.now }
 {
     let given = settings_at(s, at);
     let t = given.settings;
     let checked = index::Settings::new(t.rule, t.width, t.buckets, t.mask, t.salt);
     match checked {
-        index::Checked::Passed(_) => {
-            io::write_all(STDOUT_FILENO, b"good");
-        }
-        index::Checked::Refused(n) => {
-            print_refusal(n);
-        }
+        index::Checked::Passed(_) => out.write_all(b"good"),
+        index::Checked::Refused(n) => print_refusal(out, n),
     }
 }
 
-fn answer_tag(s: &[u8], at: usize)
+fn answer_tag(out: &mut impl Write, s: &[u8], at: usize) -> io::Result<()>
     requires { at ≤ length s.now }
 {
     let given = settings_at(s, at);
-    let mut bytes = io::buffer();
+    let mut bytes = [0u8; 4096];
     let n = bytes_at(s, given.next, &mut bytes);
     let entry = index::entry_of(given.settings, &bytes[..n]);
     match entry {
-        index::TagEntry::At(fingerprint, home) => {
-            io::print_decimal(STDOUT_FILENO, fingerprint as u64);
-            io::write_all(STDOUT_FILENO, b" ");
-            io::print_decimal(STDOUT_FILENO, home as u64);
-        }
-        index::TagEntry::Refused(n) => {
-            print_refusal(n);
-        }
+        index::TagEntry::At(fingerprint, home) => write!(out, "{fingerprint} {home}"),
+        index::TagEntry::Refused(n) => print_refusal(out, n),
     }
 }
 
-fn answer_offset(s: &[u8], at: usize)
+fn answer_offset(out: &mut impl Write, s: &[u8], at: usize) -> io::Result<()>
     requires { at ≤ length s.now }
 {
     let given = settings_at(s, at);
     let value = number_at(s, given.next);
     let offset = index::offset(given.settings, to_u16(value.value));
     match offset {
-        index::OffsetAnswer::Is(d) => {
-            io::print_decimal(STDOUT_FILENO, d as u64);
-        }
-        index::OffsetAnswer::Refused(n) => {
-            print_refusal(n);
-        }
+        index::OffsetAnswer::Is(d) => write!(out, "{d}"),
+        index::OffsetAnswer::Refused(n) => print_refusal(out, n),
     }
-}
-
-fn wide(x: u32) -> u64 {
-    x as u64
 }
 
 // The first `count` of the four, with a space between.
-fn print_buckets(buckets: [u32; 4], count: u32) {
+fn print_buckets(out: &mut impl Write, buckets: [u32; 4], count: u32) -> io::Result<()> {
     let mut i: usize = 0;
     while i < 4 {
         if i >= count as usize {
-            return;
+            return Ok(());
         }
         if i > 0 {
-            io::write_all(STDOUT_FILENO, b" ");
+            out.write_all(b" ")?;
         }
-        io::print_decimal(STDOUT_FILENO, wide(buckets[i]));
+        let bucket = buckets[i];
+        write!(out, "{bucket}")?;
         i += 1;
     }
+    Ok(())
 }
 
-fn answer_candidates(s: &[u8], at: usize)
+fn answer_candidates(out: &mut impl Write, s: &[u8], at: usize) -> io::Result<()>
     requires { at ≤ length s.now }
 {
     let given = settings_at(s, at);
@@ -222,40 +206,56 @@ fn answer_candidates(s: &[u8], at: usize)
     let refusal = list.refusal;
     if refusal == 0 {
         let buckets = list.buckets;
-        print_buckets(buckets, list.count);
+        print_buckets(out, buckets, list.count)
     } else {
-        print_refusal(refusal);
+        print_refusal(out, refusal)
     }
 }
 
 // The first letter tells the kind of a request.
-fn answer(line: &[u8]) {
+fn answer(out: &mut impl Write, line: &[u8]) -> io::Result<()> {
     if line.len() == 0 {
-        return;
+        return Ok(());
     }
     let at = next_field(line, 0);
     let kind = line[0];
     match kind {
-        b'h' => answer_hash(line, at),
-        b's' => answer_settings(line, at),
-        b't' => answer_tag(line, at),
-        b'o' => answer_offset(line, at),
-        b'c' => answer_candidates(line, at),
-        _ => {}
+        b'h' => answer_hash(out, line, at),
+        b's' => answer_settings(out, line, at),
+        b't' => answer_tag(out, line, at),
+        b'o' => answer_offset(out, line, at),
+        b'c' => answer_candidates(out, line, at),
+        _ => Ok(()),
     }
 }
 
-fn answer_all(s: &[u8]) {
+fn answer_all(out: &mut impl Write, s: &[u8]) -> io::Result<()> {
     let mut at = 0;
     while at < s.len() {
         let end = find(s, at, b'\n');
         let line = &s[at..end];
-        io::write_all(STDOUT_FILENO, line);
-        io::write_all(STDOUT_FILENO, b" = ");
-        answer(line);
-        io::write_all(STDOUT_FILENO, b"\n");
+        out.write_all(line)?;
+        out.write_all(b" = ")?;
+        answer(out, line)?;
+        out.write_all(b"\n")?;
         at = if end < s.len() { end + 1 } else { end };
     }
+    Ok(())
+}
+
+// Reads until there is no more room, or to the end of the input.
+fn fill(input: &mut impl Read, space: &mut [u8]) -> io::Result<usize>
+    ensures { IfOk result (λ n. n ≤ length space.new) }
+{
+    let mut n = 0;
+    while n < space.len() {
+        let more = input.read(&mut space[n..])?;
+        if more == 0 {
+            break;
+        }
+        n += more;
+    }
+    Ok(n)
 }
 
 // Space for the requests. Lending it as a slice needs its length and nothing else.
@@ -265,8 +265,10 @@ fn space() -> [u8; 262144]
     [0; 262144]
 }
 
-fn main() {
+fn main(rt: HostRuntime) -> io::Result<()> {
     let mut requests = space();
-    let n = io::read_full(STDIN_FILENO, &mut requests);
-    answer_all(&requests[..n]);
+    let n = fill(&mut rt.stdin(), &mut requests)?;
+    let mut out = BufWriter::new(rt.alloc(), rt.stdout())?;
+    answer_all(&mut out, &requests[..n])?;
+    out.flush()
 }
