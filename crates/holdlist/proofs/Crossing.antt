@@ -25,7 +25,7 @@ use Rattle.holdlist.specs.Calls.{settings_answer, view_answer, candidates_out, s
 
 -- a result is written as bits and read back
 pub crosses : {z y : ℤ} → mag z < 2 ^ 63 → z ≡ y → to_z w64 (of_z w64 z) ≡ y
-crosses f e = to_z-of_z (record { sfits = f }) ∙ e
+crosses f e = to_z-of_z {w = w64} (record { sfits = f }) ∙ e
 
 -- a checking call's number, 0 where nothing refuses
 checked : (o : Option ℕ) → minus (number_of o) ≡ signed itself (unless o (given 0))
