@@ -149,6 +149,20 @@ module _ (w : ℕ) (l : List ℕ) (at : ℕ) {f : Field} (q : field_is l f ≡ t
     pub low-marks : m < 16 → AtPrint (read_bucket w (drop at l)) w (bit0 m) l to (behind0 w m)
     low-marks h = record { is = tested false (lt-leb 16 m h) }
 
+-- a fingerprint that fits, by the limit of the width as the code tests it, leads to the next one
+module _ {whole : Parsed (List ℕ)} {w limit : ℕ} {l : List ℕ} (m : ℕ) (h : limit ≡ 2 ^ w) {at v to : ℕ} {f : Field} {r : Bool} (e : f ≡ Field.Value v to) where
+  pub on1 : AtPrint whole w (bit0 m) l at (behind0 w m) → field_is l f ≡ take_print (bit0 m) (drop at l) → r ≡ (bit0 m && (eqb v 0 || leb limit v)) → r ≡ false
+      → AtPrint whole w (bit1 m) l to (behind1 w m v)
+  on1 k q u z = record { is = print-told k q e false (fit_is w limit v (bit0 m) h u false z) }
+
+  pub on2 : (a : ℕ) → AtPrint whole w (bit1 m) l at (behind1 w m a) → field_is l f ≡ take_print (bit1 m) (drop at l) → r ≡ (bit1 m && (eqb v 0 || leb limit v)) → r ≡ false
+      → AtPrint whole w (bit2 m) l to (behind2 w m a v)
+  on2 a k q u z = record { is = print-told k q e false (fit_is w limit v (bit1 m) h u false z) }
+
+  pub on3 : (a b : ℕ) → AtPrint whole w (bit2 m) l at (behind2 w m a b) → field_is l f ≡ take_print (bit2 m) (drop at l) → r ≡ (bit2 m && (eqb v 0 || leb limit v)) → r ≡ false
+      → AtPrint whole w (bit3 m) l to (behind3 a b v)
+  on3 a b k q u z = record { is = print-told k q e false (fit_is w limit v (bit2 m) h u false z) }
+
 -- what is known to be there, or was asked for, is there
 pub there : (ahead : Bool) (x n : ℕ) → (ahead || leb x n) ≡ true → cond ahead x 0 ≤ n → x ≤ n
 there true x n e p = p

@@ -20,7 +20,7 @@ pub returns-then-n-eq0 : goal.returns-then-n-eq0
 returns-then-n-eq0 c =
     let all : AllBytes c.args.bytes.now = all-bytes c.args.bytes.now (λ x. omega (arith, c.type_inv.bytes x)) in
     let a = c.args in
-    code_other a.s a.bytes.now a.at all c.requires a.out.now c.refusal-n.ensures c.if-n-eq0.true
+    code_other a.s a.bytes.now a.at all c.requires a.out.now c.refusal-n.ensures (omega arith)
 
 pub overflow_sub-needed : goal.overflow_sub-needed
 overflow_sub-needed c = c.requires.0

@@ -14,49 +14,25 @@ use Rattle.holdfile.proofs.put_bucket.Goals as goal
 abbrev cell : List ℕ → ℕ → List ℕ
 cell t i = cell_bytes (get_or t i 0)
 
+-- what a bucket's room is for
+room : (t : List ℕ) (i at s n : ℕ) → at + length (bucket_bytes_at t i) + s ≤ n
+    → at + 1 + length (cell t i) + length (cell t (i + 1)) + length (cell t (i + 2)) + length (cell t (i + 3)) + s ≤ n
+room t i at s n h = omega (arith, h, size-laws.bucket (get_or t i 0) (get_or t (i + 1) 0) (get_or t (i + 2) 0) (get_or t (i + 3) 0))
+
 pub put_byte-first-requires : goal.put_byte-first-requires
-put_byte-first-requires c =
-    let room : c.args.at + 1 + length (cell c.args.table.now c.args.i) + length (cell c.args.table.now (c.args.i + 1)) + length (cell c.args.table.now (c.args.i + 2)) + length (cell c.args.table.now (c.args.i + 3)) + slack c.args.ahead ≤ length c.args.out.now = let t = c.args.table.now in
-    let i = c.args.i in
-    omega (arith, c.requires.1, size-laws.bucket (get_or t i 0) (get_or t (i + 1) 0) (get_or t (i + 2) 0) (get_or t (i + 3) 0)) in
-    omega (arith, room)
+put_byte-first-requires c = omega (arith, room c.args.table.now c.args.i c.args.at (slack c.args.ahead) (length c.args.out.now) c.requires.1)
 
 pub put_cell-second-requires : goal.put_cell-second-requires
-put_cell-second-requires c =
-    let room : c.args.at + 1 + length (cell c.args.table.now c.args.i) + length (cell c.args.table.now (c.args.i + 1)) + length (cell c.args.table.now (c.args.i + 2)) + length (cell c.args.table.now (c.args.i + 3)) + slack c.args.ahead ≤ length c.args.out.now = let t = c.args.table.now in
-    let i = c.args.i in
-    omega (arith, c.requires.1, size-laws.bucket (get_or t i 0) (get_or t (i + 1) 0) (get_or t (i + 2) 0) (get_or t (i + 3) 0)) in
-    let room1 : c.put_byte-first.result + length (cell c.args.table.now c.args.i) + length (cell c.args.table.now (c.args.i + 1)) + length (cell c.args.table.now (c.args.i + 2)) + length (cell c.args.table.now (c.args.i + 3)) + slack c.args.ahead ≤ length c.put_byte-first.new.out = omega (arith, room, c.put_byte-first.ensures.place, c.put_byte-first.auto.out) in
-    omega (arith, room1)
+put_cell-second-requires c = omega (arith, room c.args.table.now c.args.i c.args.at (slack c.args.ahead) (length c.args.out.now) c.requires.1, c.put_byte-first.ensures.place, c.put_byte-first.auto.out)
 
 pub put_cell-third-requires : goal.put_cell-third-requires
-put_cell-third-requires c =
-    let room : c.args.at + 1 + length (cell c.args.table.now c.args.i) + length (cell c.args.table.now (c.args.i + 1)) + length (cell c.args.table.now (c.args.i + 2)) + length (cell c.args.table.now (c.args.i + 3)) + slack c.args.ahead ≤ length c.args.out.now = let t = c.args.table.now in
-    let i = c.args.i in
-    omega (arith, c.requires.1, size-laws.bucket (get_or t i 0) (get_or t (i + 1) 0) (get_or t (i + 2) 0) (get_or t (i + 3) 0)) in
-    let room1 : c.put_byte-first.result + length (cell c.args.table.now c.args.i) + length (cell c.args.table.now (c.args.i + 1)) + length (cell c.args.table.now (c.args.i + 2)) + length (cell c.args.table.now (c.args.i + 3)) + slack c.args.ahead ≤ length c.put_byte-first.new.out = omega (arith, room, c.put_byte-first.ensures.place, c.put_byte-first.auto.out) in
-    let room2 : c.put_cell-second.result + length (cell c.args.table.now (c.args.i + 1)) + length (cell c.args.table.now (c.args.i + 2)) + length (cell c.args.table.now (c.args.i + 3)) + slack c.args.ahead ≤ length c.put_cell-second.new.out = omega (arith, room1, c.put_cell-second.ensures.place, c.put_cell-second.auto.out) in
-    omega (arith, room2)
+put_cell-third-requires c = omega (arith, room c.args.table.now c.args.i c.args.at (slack c.args.ahead) (length c.args.out.now) c.requires.1, c.put_byte-first.ensures.place, c.put_byte-first.auto.out, c.put_cell-second.ensures.place, c.put_cell-second.auto.out)
 
 pub put_cell-fourth-requires : goal.put_cell-fourth-requires
-put_cell-fourth-requires c =
-    let room : c.args.at + 1 + length (cell c.args.table.now c.args.i) + length (cell c.args.table.now (c.args.i + 1)) + length (cell c.args.table.now (c.args.i + 2)) + length (cell c.args.table.now (c.args.i + 3)) + slack c.args.ahead ≤ length c.args.out.now = let t = c.args.table.now in
-    let i = c.args.i in
-    omega (arith, c.requires.1, size-laws.bucket (get_or t i 0) (get_or t (i + 1) 0) (get_or t (i + 2) 0) (get_or t (i + 3) 0)) in
-    let room1 : c.put_byte-first.result + length (cell c.args.table.now c.args.i) + length (cell c.args.table.now (c.args.i + 1)) + length (cell c.args.table.now (c.args.i + 2)) + length (cell c.args.table.now (c.args.i + 3)) + slack c.args.ahead ≤ length c.put_byte-first.new.out = omega (arith, room, c.put_byte-first.ensures.place, c.put_byte-first.auto.out) in
-    let room2 : c.put_cell-second.result + length (cell c.args.table.now (c.args.i + 1)) + length (cell c.args.table.now (c.args.i + 2)) + length (cell c.args.table.now (c.args.i + 3)) + slack c.args.ahead ≤ length c.put_cell-second.new.out = omega (arith, room1, c.put_cell-second.ensures.place, c.put_cell-second.auto.out) in
-    let room3 : c.put_cell-third.result + length (cell c.args.table.now (c.args.i + 2)) + length (cell c.args.table.now (c.args.i + 3)) + slack c.args.ahead ≤ length c.put_cell-third.new.out = omega (arith, room2, c.put_cell-third.ensures.place, c.put_cell-third.auto.out) in
-    omega (arith, room3)
+put_cell-fourth-requires c = omega (arith, room c.args.table.now c.args.i c.args.at (slack c.args.ahead) (length c.args.out.now) c.requires.1, c.put_byte-first.ensures.place, c.put_byte-first.auto.out, c.put_cell-second.ensures.place, c.put_cell-second.auto.out, c.put_cell-third.ensures.place, c.put_cell-third.auto.out)
 
 pub put_cell-requires : goal.put_cell-requires
-put_cell-requires c =
-    let room : c.args.at + 1 + length (cell c.args.table.now c.args.i) + length (cell c.args.table.now (c.args.i + 1)) + length (cell c.args.table.now (c.args.i + 2)) + length (cell c.args.table.now (c.args.i + 3)) + slack c.args.ahead ≤ length c.args.out.now = let t = c.args.table.now in
-    let i = c.args.i in
-    omega (arith, c.requires.1, size-laws.bucket (get_or t i 0) (get_or t (i + 1) 0) (get_or t (i + 2) 0) (get_or t (i + 3) 0)) in
-    let room1 : c.put_byte-first.result + length (cell c.args.table.now c.args.i) + length (cell c.args.table.now (c.args.i + 1)) + length (cell c.args.table.now (c.args.i + 2)) + length (cell c.args.table.now (c.args.i + 3)) + slack c.args.ahead ≤ length c.put_byte-first.new.out = omega (arith, room, c.put_byte-first.ensures.place, c.put_byte-first.auto.out) in
-    let room2 : c.put_cell-second.result + length (cell c.args.table.now (c.args.i + 1)) + length (cell c.args.table.now (c.args.i + 2)) + length (cell c.args.table.now (c.args.i + 3)) + slack c.args.ahead ≤ length c.put_cell-second.new.out = omega (arith, room1, c.put_cell-second.ensures.place, c.put_cell-second.auto.out) in
-    let room3 : c.put_cell-third.result + length (cell c.args.table.now (c.args.i + 2)) + length (cell c.args.table.now (c.args.i + 3)) + slack c.args.ahead ≤ length c.put_cell-third.new.out = omega (arith, room2, c.put_cell-third.ensures.place, c.put_cell-third.auto.out) in
-    omega (arith, room3, c.put_cell-fourth.ensures.place, c.put_cell-fourth.auto.out)
+put_cell-requires c = omega (arith, room c.args.table.now c.args.i c.args.at (slack c.args.ahead) (length c.args.out.now) c.requires.1, c.put_byte-first.ensures.place, c.put_byte-first.auto.out, c.put_cell-second.ensures.place, c.put_cell-second.auto.out, c.put_cell-third.ensures.place, c.put_cell-third.auto.out, c.put_cell-fourth.ensures.place, c.put_cell-fourth.auto.out)
 
 pub overflow_add-result-3 : goal.overflow_add-result-3
 overflow_add-result-3 c =
