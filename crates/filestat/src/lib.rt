@@ -1,7 +1,7 @@
 // What stands at a path: its kind, its rights, its owner and its group.
 #![tactic(auto)]
 
-ghost use Rattle.std.specs.Prelude.{◌≡◌, false, IfOk, IfErr};
+ghost use Rattle.std.specs.Prelude.{◌≡◌, ◌≢◌, false, pos, IfOk, IfErr};
 ghost use Rattle.std.specs.Fs.{metadata_mode};
 ghost use Rattle.filestat.specs.Tells.{NoZero, IsPath, Tells, Silent};
 
@@ -121,7 +121,9 @@ fn missing(error: i32) -> FileStatus
 }
 
 // The system's number of an error. One that it gave no number counts as a failure of the disk.
-pub fn error_number(e: &io::Error) -> i32 {
+pub fn error_number(e: &io::Error) -> i32
+    ensures { result ≢ pos 0 }
+{
     match e.raw_os_error() {
         Some(number) if number != 0 => number,
         _ => EIO,

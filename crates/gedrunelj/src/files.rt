@@ -1,10 +1,21 @@
 // Whole files: read to their end, and written so that a name leads to the old bytes or to the new ones
 // and never to a part. What the system does cannot be said in a contract: this is proved safe and
 // ending, and tested through the tool.
-ghost use Rattle.std.specs.Prelude.{◌≤◌, length};
-ghost use Rattle.io.specs.Counts.{IsPrefixLen};
+ghost use Rattle.std.specs.Prelude.{◌≡◌, ◌≤◌, ◌↔◌, length, pos, IsOk};
 
-use filestat::FileStatus;
+use super::errors;
+use filestat::{FileStatus, error_number, path_text};
+use std::fs::{File, Permissions};
+use std::io::{Read, Write};
+use std::os::unix::fs::{PermissionsExt, fchown};
+use std::{fs, io};
+
+// The kinds of files, above the rights in a file's mode.
+const FOLDER: u32 = 0o04;
+
+const REGULAR: u32 = 0o10;
+
+const LINK: u32 = 0o12;
 
 // How many bytes a file has, as far as there is room, and the system's error, 0 where it could be read.
 #[derive(Clone, Copy)]
@@ -29,50 +40,56 @@ pub(crate) enum Stored {
     Unforced(i32),
 }
 
-// The error of the call that failed just now.
-fn error_now() -> i32 {
-    let error = os::errno();
-    if error == 0 { libc::EIO } else { error }
-}
-
 // ── reading ──
 
+// Opens a file to be read, whose name need be no text, or answers the system's error.
+pub(crate) fn open(rt: HostRuntime, name: &[u8]) -> Result<File, i32> {
+    match path_text(name) {
+        Ok(path) => opened(File::open(&rt, path)),
+        Err(error) => Err(error),
+    }
+}
+
+fn opened(got: io::Result<File>) -> Result<File, i32> {
+    match got {
+        Ok(file) => Ok(file),
+        Err(e) => Err(error_number(&e)),
+    }
+}
+
+fn unread(error: i32) -> Fetched
+    ensures { result.count ≤ 0 }
+{
+    Fetched { count: 0, error }
+}
+
 // Reads until the end, or until there is no more room.
-fn fill(fd: i32, space: &mut [u8]) -> Fetched
-    ensures { IsPrefixLen result.count space.new }
+fn fill(file: &mut File, space: &mut [u8]) -> Fetched
+    ensures { result.count ≤ length space.new }
 {
     let mut n = 0;
     while n < space.len() {
-        let got = libc::read(fd, &mut space[n..]);
-        if got < 0 {
-            return Fetched {
-                count: 0,
-                error: error_now(),
-            };
+        match file.read(&mut space[n..]) {
+            Ok(more) => {
+                if more == 0 {
+                    return Fetched { count: n, error: 0 };
+                }
+                n += more;
+            }
+            Err(e) => return unread(error_number(&e)),
         }
-        let more = io::count(got, &space[n..]);
-        if more == 0 {
-            return Fetched { count: n, error: 0 };
-        }
-        n += more;
     }
     Fetched { count: n, error: 0 }
 }
 
 // The file's bytes, to the start of space. One that fills it may have more.
-pub(crate) fn fetch(name: &[u8], space: &mut [u8]) -> Fetched
-    ensures { IsPrefixLen result.count space.new }
+pub(crate) fn fetch(rt: HostRuntime, name: &[u8], space: &mut [u8]) -> Fetched
+    ensures { result.count ≤ length space.new }
 {
-    let fd = os::open_read(name);
-    if fd < 0 {
-        return Fetched {
-            count: 0,
-            error: error_now(),
-        };
+    match open(rt, name) {
+        Ok(mut file) => fill(&mut file, space),
+        Err(error) => unread(error),
     }
-    let got = fill(fd, space);
-    libc::close(fd);
-    got
 }
 
 // ── writing ──
@@ -80,7 +97,7 @@ pub(crate) fn fetch(name: &[u8], space: &mut [u8]) -> Fetched
 // Puts as much of text as there is room for in out from `at` on, and answers the place after it.
 fn put(out: &mut [u8], at: usize, text: &[u8]) -> usize
     requires { at ≤ length out.old }
-    ensures { IsPrefixLen result out.new }
+    ensures { result ≤ length out.new }
 {
     let mut i = 0;
     let mut to = at;
@@ -97,66 +114,81 @@ fn put(out: &mut [u8], at: usize, text: &[u8]) -> usize
 
 // At most as many as there are.
 pub(crate) fn least(n: usize, bytes: &[u8]) -> usize
-    ensures { IsPrefixLen result bytes.now }
+    ensures { result ≤ length bytes.now }
 {
     if n < bytes.len() { n } else { bytes.len() }
 }
 
 // The name of an unfinished file beside the one that is to be written.
 fn unfinished(name: &[u8], digit: u8, path: &mut [u8]) -> usize
-    ensures { IsPrefixLen result path.new }
+    ensures { result ≤ length path.new }
 {
     let n = put(path, 0, name);
     let n = put(path, n, b".tmp");
     put(path, n, &[digit])
 }
 
+// Makes a file that is to be written, where none has the name.
+fn create(rt: HostRuntime, name: &[u8]) -> Result<File, i32> {
+    match path_text(name) {
+        Ok(path) => opened(File::options().write(true).create_new(true).open(&rt, path)),
+        Err(error) => Err(error),
+    }
+}
+
 // Makes an unfinished file under the first of ten names that is free.
-fn begin(name: &[u8], path: &mut [u8]) -> i32 {
+fn begin(rt: HostRuntime, name: &[u8], path: &mut [u8]) -> Result<File, i32> {
     let mut digit = b'0';
     while digit <= b'9' {
         let n = unfinished(name, digit, path);
-        let fd = os::create(&path[..n]);
-        if fd >= 0 {
-            return fd;
-        }
-        if os::errno() != libc::EEXIST {
-            return fd;
+        match create(rt, &path[..n]) {
+            Ok(file) => return Ok(file),
+            Err(error) => {
+                if error != errors::EEXIST {
+                    return Err(error);
+                }
+            }
         }
         digit += 1;
     }
-    -1
+    Err(errors::EEXIST)
+}
+
+// The error of a call, 0 where there was none.
+fn error_of(got: io::Result<()>) -> i32
+    ensures { IsOk got ↔ (result ≡ pos 0) }
+{
+    match got {
+        Ok(()) => 0,
+        Err(e) => error_number(&e),
+    }
 }
 
 // Gives the new file owner and rights of the one that it replaces, before it has a byte that somebody
 // else could read. The owner comes first: a change of it may take rights away.
-fn same_rights(fd: i32, there: FileStatus) -> i32 {
+fn same_rights(file: &File, there: FileStatus) -> i32 {
     if !there.found {
         return 0;
     }
-    if libc::fchown(fd, there.owner, there.group) < 0 {
-        return error_now();
+    let error = error_of(fchown(file, Some(there.owner), Some(there.group)));
+    if error != 0 {
+        return error;
     }
-    if libc::fchmod(fd, there.mode % 4096) < 0 {
-        return error_now();
-    }
-    0
+    error_of(file.set_permissions(Permissions::from_mode(there.mode % 4096)))
 }
 
 // Puts all bytes on the disk.
-fn written(fd: i32, bytes: &[u8]) -> i32 {
-    if !io::write_all(fd, bytes) {
-        return error_now();
+fn written(file: &mut File, bytes: &[u8]) -> i32 {
+    let error = error_of(file.write_all(bytes));
+    if error != 0 {
+        return error;
     }
-    if libc::fsync(fd) < 0 {
-        return error_now();
-    }
-    0
+    error_of(file.sync_all())
 }
 
 // Where the folder's part of a name ends.
 fn folder_end(name: &[u8]) -> usize
-    ensures { IsPrefixLen result name.now }
+    ensures { result ≤ length name.now }
 {
     let mut n = name.len();
     while n > 0 {
@@ -168,87 +200,115 @@ fn folder_end(name: &[u8]) -> usize
     n
 }
 
-fn open_folder(name: &[u8]) -> i32 {
+fn open_folder(rt: HostRuntime, name: &[u8]) -> Result<File, i32> {
     let n = folder_end(name);
     if n == 0 {
-        return os::open_read(b".");
+        return open(rt, b".");
     }
-    os::open_read(&name[..n])
+    open(rt, &name[..n])
 }
 
 // Puts the new name on the disk: without this a power cut can bring the old file back.
-fn force_folder(name: &[u8]) -> Stored {
-    let fd = open_folder(name);
-    if fd < 0 {
-        return Stored::Unforced(error_now());
+fn force_folder(rt: HostRuntime, name: &[u8]) -> Stored {
+    match open_folder(rt, name) {
+        Ok(folder) => {
+            let error = error_of(folder.sync_all());
+            if error != 0 {
+                return Stored::Unforced(error);
+            }
+            Stored::Whole
+        }
+        Err(error) => Stored::Unforced(error),
     }
-    let got = libc::fsync(fd);
-    let error = error_now();
-    libc::close(fd);
-    if got < 0 {
-        return Stored::Unforced(error);
+}
+
+// The unfinished file is taken away.
+fn undo(rt: HostRuntime, path: &[u8], why: Stored) -> Stored {
+    if let Ok(text) = path_text(path) {
+        let _ = fs::remove_file(&rt, text);
+    }
+    why
+}
+
+// Gives a file another name, and answers the error, 0 where there was none.
+fn renamed(rt: HostRuntime, path: &[u8], name: &[u8]) -> i32 {
+    match path_text(path) {
+        Ok(from) => match path_text(name) {
+            Ok(to) => error_of(fs::rename(&rt, from, to)),
+            Err(error) => error,
+        },
+        Err(error) => error,
+    }
+}
+
+// Gives the finished file its name.
+fn rename(rt: HostRuntime, path: &[u8], name: &[u8]) -> Stored {
+    let error = renamed(rt, path, name);
+    if error != 0 {
+        return undo(rt, path, Stored::Failed(error));
+    }
+    force_folder(rt, name)
+}
+
+// The new file's rights and bytes. It is closed in the end.
+fn complete(file: File, bytes: &[u8], there: FileStatus) -> Stored {
+    let mut file = file;
+    let rights = same_rights(&file, there);
+    if rights != 0 {
+        return Stored::Rights(rights);
+    }
+    let error = written(&mut file, bytes);
+    if error != 0 {
+        return Stored::Failed(error);
     }
     Stored::Whole
 }
 
-// The unfinished file is taken away.
-fn undo(path: &[u8], why: Stored) -> Stored {
-    os::unlink(path);
-    why
-}
-
-// Gives the finished file its name.
-fn rename(path: &[u8], name: &[u8]) -> Stored {
-    if os::rename(path, name) < 0 {
-        return undo(path, Stored::Failed(error_now()));
+fn finish(
+    rt: HostRuntime,
+    file: File,
+    path: &[u8],
+    name: &[u8],
+    bytes: &[u8],
+    there: FileStatus,
+) -> Stored {
+    match complete(file, bytes, there) {
+        Stored::Whole => rename(rt, path, name),
+        why => undo(rt, path, why),
     }
-    force_folder(name)
-}
-
-fn finish(fd: i32, path: &[u8], name: &[u8], bytes: &[u8], there: FileStatus) -> Stored {
-    let rights = same_rights(fd, there);
-    if rights != 0 {
-        libc::close(fd);
-        return undo(path, Stored::Rights(rights));
-    }
-    let error = written(fd, bytes);
-    libc::close(fd);
-    if error != 0 {
-        return undo(path, Stored::Failed(error));
-    }
-    rename(path, name)
 }
 
 // A file of this name, written beside the old one and then put in its place.
-fn replace(name: &[u8], bytes: &[u8], there: FileStatus) -> Stored {
-    let mut path = io::buffer();
-    let fd = begin(name, &mut path);
-    if fd < 0 {
-        return Stored::Failed(error_now());
+fn replace(rt: HostRuntime, name: &[u8], bytes: &[u8], there: FileStatus) -> Stored {
+    let mut path = [0u8; 4096];
+    match begin(rt, name, &mut path) {
+        Ok(file) => {
+            let n = least(name.len() + 5, &path);
+            finish(rt, file, &path[..n], name, bytes, there)
+        }
+        Err(error) => Stored::Failed(error),
     }
-    let n = least(name.len() + 5, &path);
-    finish(fd, &path[..n], name, bytes, there)
 }
 
 // Writes a file whole. A regular file is replaced and keeps its owner and rights; whatever else has
 // the name stays: a link might lead anywhere, and a device is no place for a list.
-pub(crate) fn store(name: &[u8], bytes: &[u8]) -> Stored {
+pub(crate) fn store(rt: HostRuntime, name: &[u8], bytes: &[u8]) -> Stored {
     if name.len() > 4000 {
-        return Stored::Failed(libc::ENAMETOOLONG);
+        return Stored::Failed(errors::ENAMETOOLONG);
     }
-    let there = filestat::status(name);
+    let there = filestat::status(&rt, name);
     let kind = there.mode / 4096;
     if !there.found {
-        return replace(name, bytes, there);
+        return replace(rt, name, bytes, there);
     }
-    if kind == libc::S_IFLNK / 4096 {
+    if kind == LINK {
         return Stored::Link;
     }
-    if kind == libc::S_IFDIR / 4096 {
-        return Stored::Failed(libc::EISDIR);
+    if kind == FOLDER {
+        return Stored::Failed(errors::EISDIR);
     }
-    if kind != libc::S_IFREG / 4096 {
+    if kind != REGULAR {
         return Stored::Irregular;
     }
-    replace(name, bytes, there)
+    replace(rt, name, bytes, there)
 }

@@ -1,5 +1,5 @@
 // The list in memory: each command's call, and its answer.
-ghost use Rattle.io.specs.Counts.{IsPrefixLen};
+ghost use Rattle.std.specs.Prelude.{◌≤◌, length};
 
 use super::State;
 use super::files::Stored;
@@ -36,7 +36,7 @@ fn without_list(state: State) -> State {
 
 // How many cells a list of these settings has, if there are as many.
 fn lent(s: Settings, cells: &[u16]) -> usize
-    ensures { IsPrefixLen result cells.now }
+    ensures { result ≤ length cells.now }
 {
     let n = 4 * (s.buckets as usize);
     if n < cells.len() { n } else { cells.len() }
@@ -47,7 +47,7 @@ fn lent(s: Settings, cells: &[u16]) -> usize
 // The tag that was typed, to the start of space, and its length. 0 where there is none, which is then
 // answered.
 fn typed(log: &mut Log, line: u64, text: &[u8], space: &mut [u8; 64]) -> usize
-    ensures { IsPrefixLen result space.new }
+    ensures { result ≤ length space.new }
 {
     match typed_tags::tag(text, space) {
         TagAnswer::Is(n) => n,
@@ -263,14 +263,8 @@ fn stored(log: &mut Log, line: u64, what: &[u8], name: &[u8], count: usize, end:
 // Keeps the first count bytes of space in a file.
 fn keep(log: &mut Log, line: u64, what: &[u8], name: &[u8], space: &[u8], count: usize) {
     let n = super::files::least(count, space);
-    stored(
-        log,
-        line,
-        what,
-        name,
-        n,
-        super::files::store(name, &space[..n]),
-    );
+    let end = super::files::store(log.rt, name, &space[..n]);
+    stored(log, line, what, name, n, end);
 }
 
 // Whether the list may be written: not where the file that should have been read last was not.
@@ -318,7 +312,7 @@ fn convert_bytes(log: &mut Log, line: u64, bytes: &[u8], name: &[u8]) {
 }
 
 pub(crate) fn convert(log: &mut Log, line: u64, from: &[u8], to: &[u8], space: &mut [u8]) {
-    let got = super::files::fetch(from, space);
+    let got = super::files::fetch(log.rt, from, space);
     if got.error != 0 {
         failed(log, line, b"cannot read ", from, got.error);
         return;
@@ -368,7 +362,7 @@ pub(crate) fn load(
     cells: &mut [u16],
     space: &mut [u8],
 ) -> State {
-    let got = super::files::fetch(name, space);
+    let got = super::files::fetch(log.rt, name, space);
     if got.error != 0 {
         failed(log, state.line, b"cannot read ", name, got.error);
         return without_list(state);
@@ -399,7 +393,7 @@ pub(crate) fn unpack(
     cells: &mut [u16],
     space: &mut [u8],
 ) -> State {
-    let got = super::files::fetch(name, space);
+    let got = super::files::fetch(log.rt, name, space);
     if got.error != 0 {
         failed(log, state.line, b"cannot read ", name, got.error);
         return without_list(state);

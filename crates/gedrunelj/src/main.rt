@@ -4,16 +4,21 @@
 // read, calls are made, and answers are printed.
 #![tactic(auto)]
 
+mod errors;
 mod files;
 mod list;
 mod tell;
 
 ghost use Rattle.std.specs.Prelude.{◌≡◌, ◌+◌, ◌≤◌, length};
-ghost use Rattle.io.specs.Counts.{IsPrefixLen};
 
 use commands::{Choice, Command};
+use filestat::error_number;
 use index::Settings;
-use libc::{STDERR_FILENO, STDIN_FILENO, STDOUT_FILENO};
+use std::env::FillError;
+use std::fs::OpenOptions;
+use std::io;
+use std::io::{IsTerminal, Read, Write};
+use std::rt::Env;
 use tell::{Log, bad, print};
 
 // What is kept from line to line: the settings of the list, its longest relocation, the number of the
@@ -134,7 +139,7 @@ fn answer(
 
 // The next line's state.
 fn counted(state: State) -> State {
-    let line = std::num::wrapping_add_u64(state.line, 1);
+    let line = state.line.wrapping_add(1);
     state_of(state.settings, state.longest, line, state.lost)
 }
 
@@ -170,14 +175,8 @@ fn too_long(log: &mut Log, state: State) -> State {
 }
 
 // Whether the lines end here, whatever is left of them.
-fn ended(log: &mut Log) -> bool {
-    tell::ends(
-        log[tell::REFUSED],
-        log[tell::FAILED],
-        log[tell::UNWRITTEN],
-        log[tell::UNREAD],
-        log[tell::STRICT],
-    )
+fn ended(log: &Log) -> bool {
+    tell::ends(log)
 }
 
 // The place of the first line end from `at` on, or the end of s.
@@ -233,7 +232,7 @@ fn answer_lines(
 // Moves the bytes from `from` to `to` to the front, and answers how many there are.
 fn move_down(s: &mut [u8], from: usize, to: usize) -> usize
     requires { (from ≤ to) × (to ≤ length s.old) }
-    ensures { IsPrefixLen result s.new }
+    ensures { result ≤ length s.new }
 {
     let mut n = 0;
     let mut i = from;
@@ -277,7 +276,7 @@ fn take(
     words: &mut [u32],
     space: &mut [u8],
 ) -> Left
-    requires { IsPrefixLen have room.old }
+    requires { have ≤ length room.old }
     ensures { result.have ≤ length room.new }
 {
     let answered = answer_lines(log, state, &room[..have], cells, words, space);
@@ -295,17 +294,22 @@ fn start() -> State {
 }
 
 // Reads once into the room behind what it has, and answers how many bytes came.
-fn receive(log: &mut Log, fd: i32, room: &mut [u8], have: usize) -> usize
+fn receive(log: &mut Log, input: &mut impl Read, room: &mut [u8], have: usize) -> usize
     requires { have ≤ length room.old }
     ensures { have + result ≤ length room.new }
 {
-    let got = libc::read(fd, &mut room[have..]);
-    if got < 0 {
-        os::fail(b"gedrunelj: the commands cannot be read");
-        log[tell::UNREAD] = 1;
-        return 0;
+    match input.read(&mut room[have..]) {
+        Ok(more) => more,
+        Err(e) => {
+            tell::fail(
+                log.rt,
+                b"gedrunelj: the commands cannot be read",
+                error_number(&e),
+            );
+            log.unread = true;
+            0
+        }
     }
-    io::count(got, &room[have..])
 }
 
 // Asks for a line where somebody sits at a terminal.
@@ -318,7 +322,7 @@ fn prompt(log: &mut Log, asks: bool) {
 // Reads once, and answers the lines that have come.
 fn step(
     log: &mut Log,
-    fd: i32,
+    input: &mut impl Read,
     asks: bool,
     state: State,
     room: &mut [u8],
@@ -331,19 +335,19 @@ fn step(
     ensures { result.have ≤ length room.new }
 {
     prompt(log, asks);
-    let more = receive(log, fd, room, have);
+    let more = receive(log, input, room, have);
     if more == 0 {
         return left_of(have, false, state);
     }
     take(log, state, room, have + more, cells, words, space)
 }
 
-// Answers the lines of fd until its end, and answers how many there were; the last may have no line
+// Answers the lines of the input until its end, and answers how many there were; the last may have no line
 // end. A loop has to end, and nothing says that the input does: so it counts down from a number that
 // no run uses up.
 fn serve(
     log: &mut Log,
-    fd: i32,
+    input: &mut impl Read,
     asks: bool,
     room: &mut [u8],
     cells: &mut [u16],
@@ -354,7 +358,7 @@ fn serve(
     let mut have = 0;
     let mut turns = u64::MAX;
     while turns > 0 {
-        let left = step(log, fd, asks, state, room, have, cells, words, space);
+        let left = step(log, input, asks, state, room, have, cells, words, space);
         have = left.have;
         state = left.state;
         turns = if left.more { turns - 1 } else { 0 };
@@ -387,12 +391,14 @@ fn file_space() -> [u8; 589840]
     [0; 589840]
 }
 
-fn serve_lent(log: &mut Log, fd: i32, asks: bool) -> u64 {
-    let mut room = io::large_buffer();
+fn serve_lent(log: &mut Log, input: &mut impl Read, asks: bool) -> u64 {
+    let mut room = [0u8; 65536];
     let mut cells = cell_space();
     let mut words = word_space();
     let mut space = file_space();
-    serve(log, fd, asks, &mut room, &mut cells, &mut words, &mut space)
+    serve(
+        log, input, asks, &mut room, &mut cells, &mut words, &mut space,
+    )
 }
 
 // ── the program ──
@@ -445,130 +451,121 @@ fn with_argument(o: Options, i: usize, text: &[u8]) -> Options {
     next
 }
 
-// One more argument. One that is longer than any path is none of ours.
-fn with_next(o: Options, i: usize) -> Options {
-    let mut space = io::buffer();
-    let n = os::arg(i, &mut space);
-    if os::errno() != 0 {
-        let mut wrong = o;
-        wrong.wrong = true;
-        return wrong;
-    }
-    with_argument(o, i, &space[..n])
+fn with_wrong(o: Options) -> Options {
+    let mut next = o;
+    next.wrong = true;
+    next
 }
 
-fn asked() -> Options {
-    let count = os::arg_count();
+// What the arguments ask for. One that is longer than any path is none of ours.
+fn asked(rt: HostRuntime) -> Options {
     let mut o = no_options();
-    let mut i = 1;
-    while i < count {
-        o = with_next(o, i);
-        i += 1;
+    for i in 1..usize::MAX {
+        let mut space = [0u8; 4096];
+        match rt.arg(i, &mut space) {
+            Ok(n) => o = with_argument(o, i, &space[..n]),
+            Err(FillError::TooLong) => o = with_wrong(o),
+            Err(FillError::NotPresent) => return o,
+        }
     }
     o
 }
 
-// How the tool is used, to standard output or to standard error.
-fn usage(fd: i32) {
-    io::write_all(
-        fd,
-        b"usage: gedrunelj [--strict] [SCRIPT]\nCommands come from SCRIPT, or from standard input where none or - is named; the command help names them.\n  --strict    stop at the first line that is refused or cannot be done\n  -h, --help  this text\n  --version   the version\n",
-    );
-}
+// How the tool is used.
+const USAGE: &[u8] =
+    b"usage: gedrunelj [--strict] [SCRIPT]\nCommands come from SCRIPT, or from standard input where none or - is named; the command help names them.\n  --strict    stop at the first line that is refused or cannot be done\n  -h, --help  this text\n  --version   the version\n";
 
 // How it went: 2 where the commands could not be read, 1 where anything else went wrong.
-fn exit_status(log: &mut Log) -> u64 {
-    if log[tell::UNREAD] != 0 {
+fn exit_status(log: &Log) -> u64 {
+    if log.unread {
         return 2;
     }
-    if log[tell::UNWRITTEN] != 0 {
+    if log.unwritten {
         return 1;
     }
-    if log[tell::REFUSED] != 0 {
+    if log.refused != 0 {
         return 1;
     }
-    if log[tell::FAILED] != 0 {
+    if log.failed != 0 {
         return 1;
     }
     0
 }
 
-// A program of this language has no exit status, so whoever starts it with --report is told on
-// descriptor 3 what the status should be.
-fn report(wanted: bool, status: u64) {
+fn tell_status(rt: HostRuntime, status: u64) -> io::Result<()> {
+    let mut to = OpenOptions::new().write(true).open(&rt, "/dev/fd/3")?;
+    write!(to, "{status}")
+}
+
+// The tool itself ends with 0. Whoever starts it with --report is told on descriptor 3 what the status
+// should be.
+fn report(rt: HostRuntime, wanted: bool, status: u64) {
     if wanted {
-        io::print_decimal(3, status);
+        let _ = tell_status(rt, status);
     }
 }
 
-fn one_if(b: bool) -> u64 {
-    if b { 1 } else { 0 }
+// Answers the lines of the input, tells what went wrong, and answers the status.
+fn run(rt: HostRuntime, input: &mut impl Read, asks: bool, o: Options) -> u64 {
+    let mut log = tell::new_log(rt, o.strict);
+    if rt.write_some(b"").is_err() {
+        log.unwritten = true;
+    }
+    let line = serve_lent(&mut log, input, asks);
+    tell::summary(&log, line);
+    exit_status(&log)
 }
 
-// Answers the lines of fd, and tells what went wrong.
-fn run(fd: i32, asks: bool, o: Options) {
-    let mut log = [0u64; 5];
-    log[tell::STRICT] = one_if(o.strict);
-    if libc::write(STDOUT_FILENO, b"") < 0 {
-        log[tell::UNWRITTEN] = 1;
+fn run_named(rt: HostRuntime, name: &[u8], o: Options) -> u64 {
+    match files::open(rt, name) {
+        Ok(mut script) => run(rt, &mut script, false, o),
+        Err(error) => {
+            tell::fail(rt, name, error);
+            2
+        }
     }
-    let line = serve_lent(&mut log, fd, asks);
-    tell::summary(
-        log[tell::REFUSED],
-        log[tell::FAILED],
-        log[tell::UNWRITTEN],
-        log[tell::STRICT],
-        line,
-    );
-    report(o.report, exit_status(&mut log));
 }
 
-fn run_script(i: usize, o: Options) {
-    let mut path = io::buffer();
-    let n = os::arg(i, &mut path);
-    let fd = os::open_read(&path[..n]);
-    if fd < 0 {
-        os::fail(&path[..n]);
-        report(o.report, 2);
-        return;
+fn run_script(rt: HostRuntime, i: usize, o: Options) -> u64 {
+    let mut path = [0u8; 4096];
+    match rt.arg(i, &mut path) {
+        Ok(n) => run_named(rt, &path[..n], o),
+        Err(_) => run_named(rt, b"", o),
     }
-    run(fd, false, o);
-    libc::close(fd);
 }
 
 // Whether somebody sits at both ends.
-fn at_terminal() -> bool {
-    if libc::isatty(STDIN_FILENO) != 1 {
-        return false;
-    }
-    libc::isatty(STDOUT_FILENO) == 1
+fn at_terminal(rt: HostRuntime) -> bool {
+    rt.stdin().is_terminal() && rt.stdout().is_terminal()
 }
 
-fn run_input(o: Options) {
-    run(STDIN_FILENO, at_terminal(), o);
+fn run_input(rt: HostRuntime, o: Options) -> u64 {
+    run(rt, &mut rt.stdin(), at_terminal(rt), o)
 }
 
-fn main() {
-    let o = asked();
+// What the arguments ask for is done, and the status is answered.
+fn served(rt: HostRuntime, o: Options) -> u64 {
     if o.help {
-        usage(STDOUT_FILENO);
-        report(o.report, 0);
-        return;
+        let _ = rt.write_all(USAGE);
+        return 0;
     }
     if o.version {
-        io::write_all(STDOUT_FILENO, b"gedrunelj 0.8.0\n");
-        report(o.report, 0);
-        return;
+        let _ = rt.write_all(b"gedrunelj 0.8.0\n");
+        return 0;
     }
     if o.wrong {
-        usage(STDERR_FILENO);
-        report(o.report, 2);
-        return;
+        tell::say(rt, USAGE);
+        return 2;
     }
     let script = o.script;
     if script == 0 {
-        run_input(o);
-        return;
+        return run_input(rt, o);
     }
-    run_script(script, o);
+    run_script(rt, script, o)
+}
+
+fn main(rt: HostRuntime) {
+    let o = asked(rt);
+    let status = served(rt, o);
+    report(rt, o.report, status);
 }

@@ -1,32 +1,43 @@
 // What is printed, and the count of what went wrong.
+use super::errors;
 use commands::Expected;
 use index::Settings;
-use libc::{STDERR_FILENO, STDOUT_FILENO};
+use std::io;
 
 // What goes with every line: how many were refused by number, how many could not be done for another
 // reason, whether an answer could not be written, whether the commands could not be read, and whether
-// the first trouble is to be the last.
-pub(crate) type Log = [u64; 5];
+// the first trouble is to be the last. With it goes the system, which all of it is told to.
+#[derive(Clone, Copy)]
+pub(crate) struct Log {
+    pub(crate) rt: HostRuntime,
+    pub(crate) refused: u64,
+    pub(crate) failed: u64,
+    pub(crate) unwritten: bool,
+    pub(crate) unread: bool,
+    pub(crate) strict: bool,
+}
 
-pub(crate) const REFUSED: usize = 0;
+pub(crate) fn new_log(rt: HostRuntime, strict: bool) -> Log {
+    Log {
+        rt,
+        refused: 0,
+        failed: 0,
+        unwritten: false,
+        unread: false,
+        strict,
+    }
+}
 
-pub(crate) const FAILED: usize = 1;
-
-pub(crate) const UNWRITTEN: usize = 2;
-
-pub(crate) const UNREAD: usize = 3;
-
-pub(crate) const STRICT: usize = 4;
-
+// Each text goes out at once: whoever reads the answers waits for them.
 pub(crate) fn print(log: &mut Log, text: &[u8]) {
-    if !io::write_all(STDOUT_FILENO, text) {
-        log[UNWRITTEN] = 1;
+    if log.rt.write_all(text).is_err() {
+        log.unwritten = true;
     }
 }
 
 pub(crate) fn print_number(log: &mut Log, n: u64) {
-    if !io::print_decimal(STDOUT_FILENO, n) {
-        log[UNWRITTEN] = 1;
+    if log.rt.print(n).is_err() {
+        log.unwritten = true;
     }
 }
 
@@ -39,7 +50,7 @@ pub(crate) fn print_with(log: &mut Log, before: &[u8], n: u64, after: &[u8]) {
 
 // What is wrong with a line, which has changed nothing.
 pub(crate) fn bad(log: &mut Log, line: u64, what: &[u8]) {
-    log[FAILED] = std::num::wrapping_add_u64(log[FAILED], 1);
+    log.failed = log.failed.wrapping_add(1);
     print_with(log, b"line ", line, b": ");
     print(log, what);
 }
@@ -101,7 +112,7 @@ fn file_meaning(log: &mut Log, n: u32) {
 }
 
 pub(crate) fn refused(log: &mut Log, n: u32) {
-    log[REFUSED] = std::num::wrapping_add_u64(log[REFUSED], 1);
+    log.refused = log.refused.wrapping_add(1);
     print_with(log, b"refused ", n as u64, b": ");
     meaning(log, n);
 }
@@ -116,30 +127,30 @@ fn magnitude(n: i32) -> u64 {
 // An error of the system that is not among those below: its number, and its text on standard error.
 fn unknown(log: &mut Log, error: i32) {
     print_with(log, b"error ", magnitude(error), b" of the system\n");
-    if os::errno() == error {
-        os::fail(b"gedrunelj");
+    if !log.unwritten {
+        fail(log.rt, b"gedrunelj", error);
     }
 }
 
 // Why the system refused a file.
 pub(crate) fn reason(log: &mut Log, error: i32) {
     match error {
-        libc::ENOENT => print(log, b"there is no such file or folder\n"),
-        libc::EACCES => print(log, b"permission denied\n"),
-        libc::EPERM => print(log, b"not permitted\n"),
-        libc::EEXIST => print(
+        errors::ENOENT => print(log, b"there is no such file or folder\n"),
+        errors::EACCES => print(log, b"permission denied\n"),
+        errors::EPERM => print(log, b"not permitted\n"),
+        errors::EEXIST => print(
             log,
             b"unfinished files are in the way, of the same name with .tmp0 to .tmp9\n",
         ),
-        libc::ENOTDIR => print(log, b"a part of the path is no folder\n"),
-        libc::EISDIR => print(log, b"it is a folder\n"),
-        libc::ENOSPC => print(log, b"no space is left\n"),
-        libc::EFBIG => print(log, b"the file would be too large\n"),
-        libc::EROFS => print(log, b"nothing can be written there\n"),
-        libc::ENAMETOOLONG => print(log, b"the name is too long\n"),
-        libc::EINVAL => print(log, b"the name is not one of a file\n"),
-        libc::EIO => print(log, b"the disk failed\n"),
-        libc::ELOOP => print(log, b"links lead in a circle\n"),
+        errors::ENOTDIR => print(log, b"a part of the path is no folder\n"),
+        errors::EISDIR => print(log, b"it is a folder\n"),
+        errors::ENOSPC => print(log, b"no space is left\n"),
+        errors::EFBIG => print(log, b"the file would be too large\n"),
+        errors::EROFS => print(log, b"nothing can be written there\n"),
+        errors::ENAMETOOLONG => print(log, b"the name is too long\n"),
+        errors::EINVAL => print(log, b"the name is not one of a file\n"),
+        errors::EIO => print(log, b"the disk failed\n"),
+        errors::ELOOP => print(log, b"links lead in a circle\n"),
         _ => unknown(log, error),
     }
 }
@@ -267,52 +278,81 @@ pub(crate) fn found(log: &mut Log, copies: u32) {
 
 // ── what is told at the end, on standard error ──
 
-fn say(text: &[u8]) {
-    io::write_all(STDERR_FILENO, text);
+// Nobody can be told where standard error takes nothing.
+pub(crate) fn say(rt: HostRuntime, text: &[u8]) {
+    let _ = rt.stderr().write_all(text);
 }
 
-fn say_number(n: u64) {
-    io::print_decimal(STDERR_FILENO, n);
+fn say_number(rt: HostRuntime, n: u64) {
+    let _ = rt.eprint(n);
+}
+
+// The system's words for an error, without its number, which std puts behind them.
+fn words(text: &str) -> &str {
+    match text.split_once(" (os error ") {
+        Some((before, _)) => before,
+        None => text,
+    }
+}
+
+fn say_error(rt: HostRuntime, error: i32) {
+    let e = io::Error::from_raw_os_error(error);
+    match format!(in rt.alloc(); "{e}") {
+        Ok(text) => say(rt, words(text.as_str()).as_bytes()),
+        Err(_) => say_number(rt, magnitude(error)),
+    }
+}
+
+// A line that tells what failed, and why.
+pub(crate) fn fail(rt: HostRuntime, what: &[u8], error: i32) {
+    say(rt, what);
+    say(rt, b": ");
+    say_error(rt, error);
+    say(rt, b"\n");
 }
 
 // Whether the lines end here: no answer can be written, no more can be read, so that the last line may
 // be a part of one, or the first trouble was to be the last.
-pub(crate) fn ends(refused: u64, failed: u64, unwritten: u64, unread: u64, strict: u64) -> bool {
-    if unwritten != 0 {
+pub(crate) fn ends(log: &Log) -> bool {
+    if log.unwritten {
         return true;
     }
-    if unread != 0 {
+    if log.unread {
         return true;
     }
-    if strict == 0 {
+    if !log.strict {
         return false;
     }
-    if refused != 0 {
+    if log.refused != 0 {
         return true;
     }
-    failed != 0
+    log.failed != 0
 }
 
 // One line of counts where anything went wrong, with the line at which it ended early.
-pub(crate) fn summary(refused: u64, failed: u64, unwritten: u64, strict: u64, line: u64) {
-    if unwritten != 0 {
-        say(b"gedrunelj: an answer could not be written; stopped at line ");
-        say_number(line);
-        say(b"\n");
+pub(crate) fn summary(log: &Log, line: u64) {
+    let rt = log.rt;
+    if log.unwritten {
+        say(
+            rt,
+            b"gedrunelj: an answer could not be written; stopped at line ",
+        );
+        say_number(rt, line);
+        say(rt, b"\n");
     }
-    if refused == 0 {
-        if failed == 0 {
+    if log.refused == 0 {
+        if log.failed == 0 {
             return;
         }
     }
-    say(b"gedrunelj: ");
-    say_number(refused);
-    say(b" refused, ");
-    say_number(failed);
-    say(b" failed");
-    if strict != 0 {
-        say(b"; stopped at line ");
-        say_number(line);
+    say(rt, b"gedrunelj: ");
+    say_number(rt, log.refused);
+    say(rt, b" refused, ");
+    say_number(rt, log.failed);
+    say(rt, b" failed");
+    if log.strict {
+        say(rt, b"; stopped at line ");
+        say_number(rt, line);
     }
-    say(b"\n");
+    say(rt, b"\n");
 }
