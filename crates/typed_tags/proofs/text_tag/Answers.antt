@@ -17,4 +17,4 @@ returns-then-n-gt64 c =
 pub returns : goal.returns
 returns c =
     let a = c.args in
-    is-given a.text.now a.out.now (length a.text.now) c.copy.new.out c.if-n-eq0.false c.if-n-gt64.false refl c.copy.ensures
+    is-given a.text.now a.out.now (length a.text.now) c.copy.new.out c.if-n-eq0.false (omega arith) refl c.copy.ensures
