@@ -529,8 +529,8 @@ fn check_buckets(quads: &[u16; 3876], s: Settings, bytes: &[u8]) -> UnpackAnswer
 
 // One bucket's cells, to the part that is lent for it, so that no other is in reach.
 fn put(part: &mut [u16], a: u16, b: u16, c: u16, d: u16)
-    requires { length part.old ≡ 4 }
-    ensures { part.new ≡ a ∷ b ∷ c ∷ d ∷ [] }
+    requires { 4 ≤ length part.old }
+    ensures { part.new ≡ a ∷ b ∷ c ∷ d ∷ drop 4 part.old }
 {
     part[0] = a;
     part[1] = b;
