@@ -36,7 +36,7 @@ use Rattle.file_form.proofs.Laws.{header-laws}
 use Rattle.file_form.proofs.RoundTrip.{any-reader, written-is-read}
 use Rattle.file_header.specs.declared.HeaderRead.{HeaderRead}
 use Rattle.holdfile.specs.Answers.{Examined}
-use Rattle.file_convert.specs.Converter.{cleared, without, plain_bytes, convert_checks, converted, from_file, convert_file}
+use Rattle.file_convert.specs.Converter.{cleared, without, plain_bytes, convert_checks, from_file, convert_file}
 use Rattle.file_convert.specs.Conversion.{FormerList, Converts}
 
 -- ── the header without rule and mask ──
@@ -110,7 +110,7 @@ module _ (bytes out : List ℕ) where
     found r q = q ∙ sym (ap ends e)
 
     abbrev comes : Answer (Done ℕ (List ℕ))
-    comes = given (converted new out)
+    comes = given (done (length new) (new ++ drop (length new) out))
 
     pub other : degenerate s ≡ false → outcome (refused 24) out ≡ convert_file bytes out
     unfolding convert_checks

@@ -32,14 +32,10 @@ plain_bytes (map ∷ rest) = without map (take_fields sizes map defaults rest)
 unfoldable pub convert_checks : Settings → ℕ → ℕ → List Check
 convert_checks s room needed = check 24 (not (degenerate s)) ∷ check 16 (ltb room needed) ∷ []
 
--- the byte count, and the output, of which later bytes are as they were
-abbrev pub converted : List ℕ → List ℕ → Done ℕ (List ℕ)
-converted new out = done (length new) (new ++ drop (length new) out)
-
 -- a file that is refused by the reader's checks is refused so, and one that is sound comes to the new bytes
 abbrev pub from_file : List ℕ → List ℕ → Answer (Done Settings (List ℕ)) → Answer (Done ℕ (List ℕ))
 from_file new out (refused n) = refused n
-from_file new out (given d) = unless (first_met (convert_checks d.says (length out) (length new))) (given (converted new out))
+from_file new out (given d) = unless (first_met (convert_checks d.says (length out) (length new))) (given (done (length new) (new ++ drop (length new) out)))
 
 -- the reader's checks are made as they were while a degenerate mask passed, and of no table
 unfoldable pub convert_file : List ℕ → List ℕ → Written

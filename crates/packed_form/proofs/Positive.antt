@@ -1,10 +1,12 @@
 -- Neither writer nor reader of the packed form is refused with 0.
 -- Assumes nothing.
-use mathlib.Core.List.{List, [], ◌++◌}
+use mathlib.Core.Bool.{not}
+use mathlib.Core.List.{List, [], ◌∷◌, ◌++◌}
 use Prim.Native.Nat.{ℕ, zero, suc, ◌/◌, ◌%◌, ◌^◌}
 use native.Mathlib.Omega.{arith}
+use lib.Dec.{eqb}
 use Rattle.lemmas.specs.Bytes.{number_from}
-use Rattle.refusals.specs.Checks.{first_met, Numbered}
+use Rattle.refusals.specs.Checks.{check, first_met, Numbered}
 use Rattle.refusals.specs.Outcomes.{Answer, refused, given, unless}
 use Rattle.refusals.specs.Positive.{Positive}
 use Rattle.refusals.proofs.Cursor.{numbered-both}
@@ -14,7 +16,7 @@ use Rattle.calls.specs.Calls.{table_checks}
 use Rattle.calls.proofs.Laws.{table-check-laws}
 use Rattle.calls.proofs.Positive.{positive-calls}
 use Rattle.packed_form.specs.Writer.{bucket_bits, packed_of, write_packed}
-use Rattle.packed_form.specs.Reader.{bucket_from, code_checks, onward, filling_checks, unpack, length_checks, with_count, read_packed}
+use Rattle.packed_form.specs.Reader.{bucket_from, code_checks, onward, unpack, length_checks, with_count, read_packed}
 use Rattle.packed_form.specs.Positive.{PositivePacked}
 
 onward-positive : (four : List ℕ) (a : Answer (List ℕ)) → Positive a → Positive (onward four a)
@@ -31,7 +33,7 @@ code-checks w code = (omega arith, (omega arith, tt))
 
 unpack-positive : (w m stream : ℕ) → Positive (unpack w m stream)
 unfolding unpack
-unpack-positive w zero stream = positive-laws.checked (filling_checks stream) (given []) (omega arith, tt) tt
+unpack-positive w zero stream = positive-laws.checked (check 20 (not (eqb stream 0)) ∷ []) (given []) (omega arith, tt) tt
 unpack-positive w (suc m) stream =
     let code = stream % 2 ^ bucket_bits w in
     let more = unpack w m (stream / 2 ^ bucket_bits w) in

@@ -1,7 +1,7 @@
 -- The stream of bits as one number: what the writer made is read back, and what is read is what the writer makes of it.
 -- Assumes nothing.
 use mathlib.Core.Path.{◌≡◌, refl, sym, ap, ap₂, ◌∙◌, subst}
-use mathlib.Core.Bool.{false}
+use mathlib.Core.Bool.{false, not}
 use mathlib.Core.Option.{Option, none, some}
 use mathlib.Core.List.{List, [], ◌∷◌, ◌++◌}
 use Prim.Native.Nat.{ℕ, zero, suc, ◌+◌, ◌*◌, ◌/◌, ◌%◌, ◌^◌, ◌≤◌, ◌<◌}
@@ -12,13 +12,13 @@ use lib.Dec.{eqb}
 use lib.ListN.{length}
 use lib.Pow.{pow_pos, pow-add}
 use Rattle.lemmas.proofs.Digits.{digit-below, digit-first, digit-rest}
-use Rattle.refusals.specs.Checks.{first_met}
+use Rattle.refusals.specs.Checks.{check, first_met}
 use Rattle.refusals.specs.Outcomes.{Answer, refused, given, unless}
 use Rattle.refusals.proofs.Cursor.{by-none, not-met}
 use Rattle.rows.specs.Rows.{nibble0, nibble1, nibble2, nibble3, Ascends}
 use Rattle.calls.specs.WrittenForms.{any_from}
 use Rattle.packed_form.specs.Writer.{sort4, sort_buckets, code_of, bucket_bits, stream_of}
-use Rattle.packed_form.specs.Reader.{bucket_from, descends, code_checks, onward, filling_checks, unpack}
+use Rattle.packed_form.specs.Reader.{bucket_from, descends, code_checks, onward, unpack}
 use Rattle.packed_form.proofs.Sort.{fours, sort_ascends, sort_below, sort-kept, below-four, four_below}
 use Rattle.packed_form.proofs.Codes.{code_below, code-row-below, bucket-of-code, code-of-bucket, values-fit, value, ascends-test, test-ascends}
 use Rattle.packed_form.proofs.Refusals.{bucket_passes, bucket_passed}
@@ -38,7 +38,7 @@ nothing_left w = refl
 ended : (w stream : ℕ) (l : List ℕ) → unpack w 0 stream ≡ given l → (l ≡ []) × (stream ≡ 0)
 unfolding unpack
 ended w stream l e =
-    let f = by-none (first_met (filling_checks stream)) (sym e) in
+    let f = by-none (first_met (check 20 (not (eqb stream 0)) ∷ [])) (sym e) in
     (f.1, eqb-true stream 0 (not-false (eqb stream 0) (not-met _ [] f.0).0))
 
 -- a bucket that is accepted ahead of the rest, and the rest

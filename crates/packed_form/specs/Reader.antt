@@ -40,13 +40,9 @@ abbrev pub onward : List ℕ → Answer (List ℕ) → Answer (List ℕ)
 onward four (refused n) = refused n
 onward four (given l) = given (four ++ l)
 
--- what is left after the buckets is filling, and a bit of it gives 20
-abbrev pub filling_checks : ℕ → List Check
-filling_checks stream = check 20 (not (eqb stream 0)) ∷ []
-
--- so many buckets from the lowest bits of the stream on
+-- so many buckets from the lowest bits of the stream on; what is left after them is filling, and a bit of it gives 20
 unfoldable pub unpack : ℕ → ℕ → ℕ → Answer (List ℕ)
-unpack w zero stream = unless (first_met (filling_checks stream)) (given [])
+unpack w zero stream = unless (first_met (check 20 (not (eqb stream 0)) ∷ [])) (given [])
 unpack w (suc m) stream =
     unless (first_met (code_checks w (stream % 2 ^ bucket_bits w)))
     (onward (bucket_from w (stream % 2 ^ bucket_bits w)) (unpack w m (stream / 2 ^ bucket_bits w)))
