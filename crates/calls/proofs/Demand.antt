@@ -23,7 +23,8 @@ use Rattle.calls.specs.Cells.{cell}
 use Rattle.calls.specs.Calls.{Said, cleared, released, absent, accepted, copies, Sound, Held, scratch_checks, fresh, clear_table}
 use Rattle.calls.specs.Multiset.{count, Same}
 use Rattle.calls.specs.Assignment.{Assignable}
-use Rattle.calls.specs.AssignmentDecided.{dec_assignable}
+use Rattle.calls.specs.AssignmentDecided.{Room, decided}
+use Rattle.calls.proofs.AssignmentDecided.{assignable, beside-none}
 use Rattle.calls.specs.Model.{Call, hold_of, lookup_of, to_hold, model_checks}
 use Rattle.calls.specs.Demand.{table_call, run, entries, forget_moves, forget, Demand3, Represents, Demand3From, FromEveryTable}
 use Rattle.calls.specs.Laws.{Agree, Step}
@@ -59,12 +60,12 @@ module _ (s : Settings) (L : Laws s) where
 
   module _ (c : List ℕ) (E : List Class) (A : Agree s c E) where
     nine : (t : List ℕ) (n : ℕ) → first_met (model_checks s (hold_of t n)) ≡ none → ((table_call s c (hold_of t n)).answer ≡ refused 9) ↔ (¬ Assignable (class_of s t ∷ E))
-    nine t n e = rw (table-call s L c E A (hold_of t n), e) (go (dec_assignable (class_of s t ∷ E)) (step-act s L c E A (hold_of t n)))
+    nine t n e = rw (table-call s L c E A (hold_of t n), e) (go (decided (class_of s t ∷ E)) (step-act s L c E A (hold_of t n)))
       where
-        go : (d : Dec (Assignable (class_of s t ∷ E))) → Step s c (keeping c (table_act s L c E A (hold_of t n))) (keeping E (to_hold (class_of s t) E d))
+        go : (d : Dec (Room [] (class_of s t ∷ E))) → Step s c (keeping c (table_act s L c E A (hold_of t n))) (keeping E (to_hold (class_of s t) E d))
             → ((keeping c (table_act s L c E A (hold_of t n))).answer ≡ refused 9) ↔ (¬ Assignable (class_of s t ∷ E))
-        go (yes a) r = (λ q. let z : ◌≡◌ {A = ℕ} 0 1 = cc (r.reply, ap forget q) in absurd (omega arith), λ m. absurd (m a))
-        go (no a) r = (λ q. a, λ m. forget-refused _ 9 r.reply)
+        go (yes a) r = (λ q. let z : ◌≡◌ {A = ℕ} 0 1 = cc (r.reply, ap forget q) in absurd (omega arith), λ m. absurd (m (assignable (class_of s t ∷ E) a)))
+        go (no a) r = (λ q x. a (beside-none (class_of s t ∷ E) x), λ m. forget-refused _ 9 r.reply)
 
     copies_of : (t : List ℕ) → first_met (model_checks s (lookup_of t)) ≡ none → (table_call s c (lookup_of t)).answer ≡ given (copies (count (class_of s t) E))
     copies_of t e = rw (table-call s L c E A (lookup_of t), e) (forget-copies _ _ (step-act s L c E A (lookup_of t)).reply)

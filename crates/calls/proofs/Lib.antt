@@ -10,6 +10,7 @@ pub mod Weights
 pub mod Moves
 pub mod Exhausted
 pub mod Refusals
+pub mod AssignmentDecided
 pub mod Model
 pub mod Demand
 pub mod Laws

@@ -19,8 +19,8 @@ use Rattle.calls.specs.Cells.{lowest_at, lowest_empty, in_first}
 use Rattle.calls.specs.Search.{Node, Ending, found, exhausted, search_for, relocate}
 use Rattle.calls.specs.Calls.{Said, released, absent, accepted, copies, Act, found_in, copies_in, lookup_in, lookup, emptied, release_in, release, placed, hold_in, hold}
 use Rattle.calls.specs.Multiset.{count, Same}
-use Rattle.calls.specs.Assignment.{Assignable}
-use Rattle.calls.specs.AssignmentDecided.{dec_assignable}
+use Rattle.calls.specs.AssignmentDecided.{Room, decided}
+use Rattle.calls.proofs.AssignmentDecided.{assignable, beside-none}
 use Rattle.calls.specs.Model.{Call, hold_of, release_of, lookup_of, to_hold, to_release, to_lookup, model_act, model_checks, model_call, ModelRun, model_run}
 use Rattle.calls.specs.Demand.{table_call, Run, run, entries, forget, is_accepted, is_released, tally}
 use Rattle.calls.specs.Laws.{Finds, Agree, Step}
@@ -43,11 +43,11 @@ module _ (s : Settings) (L : Laws s) (c : List ℕ) (E : List Class) (A : Agree 
     k = class_at s p b
 
     -- ── hold ──
-    gains : (d : List ℕ) (moves : ℕ) → length d ≡ length c → Same (entries s d) (k ∷ entries s c) → (a : Dec (Assignable (k ∷ E)))
+    gains : (d : List ℕ) (moves : ℕ) → length d ≡ length c → Same (entries s d) (k ∷ entries s c) → (a : Dec (Room [] (k ∷ E)))
         → Step s c (outcome (given (accepted moves)) d) (keeping E (to_hold k E a))
     gains d moves e m (yes a) = record
         { reply = refl; after = record { same = λ w. omega (arith, m w, A.same w); size = e ∙ A.size }; counted = omega (arith, m (λ x. 1)) }
-    gains d moves e m (no a) = absurd (a (assignable-same (entries s d) (k ∷ E) (λ w. omega (arith, m w, A.same w)) (table-assigned s L d)))
+    gains d moves e m (no a) = absurd (a (beside-none (k ∷ E) (assignable-same (entries s d) (k ∷ E) (λ w. omega (arith, m w, A.same w)) (table-assigned s L d))))
 
     -- what is written, v, is the fingerprint by its value
     put-total : (i : ℕ) → Finds c 0 (candidates s p b) (some i) → (v : ℕ) → v ≡ p → Same (entries s (set c i v)) (k ∷ entries s c)
@@ -58,20 +58,20 @@ module _ (s : Settings) (L : Laws s) (c : List ℕ) (E : List Class) (A : Agree 
     moved-total i m q e v f = rw f (relocated-total s L c p b i m q n l A.size e)
 
     -- with no moves
-    step-placed : (i : ℕ) → Finds c 0 (candidates s p b) (some i) → (r : Ending) (d : Dec (Assignable (k ∷ E)))
+    step-placed : (i : ℕ) → Finds c 0 (candidates s p b) (some i) → (r : Ending) (d : Dec (Room [] (k ∷ E)))
         → Step s c (keeping c (placed c p (some i) r)) (keeping E (to_hold k E d))
     step-placed i f r d = gains _ _ (length-set c i _) (put-total i f _ (omega arith)) d
 
-    pub step-hold : Step s c (keeping c (hold_in s c p b)) (keeping E (to_hold k E (dec_assignable (k ∷ E))))
+    pub step-hold : Step s c (keeping c (hold_in s c p b)) (keeping E (to_hold k E (decided (k ∷ E))))
     unfolding hold_in
     step-hold = go (in_first (lowest_empty c) (candidates s p b)) (first_finds c 0 (lowest_empty c) (empty-finds c) (candidates s p b))
-        (search_for s c p b) (search-ends s L c p b l) (dec_assignable (k ∷ E))
+        (search_for s c p b) (search-ends s L c p b l) (decided (k ∷ E))
       where
-        go : (o : Option ℕ) → Finds c 0 (candidates s p b) o → (r : Ending) → Ends s c (candidates s p b) r → (d : Dec (Assignable (k ∷ E)))
+        go : (o : Option ℕ) → Finds c 0 (candidates s p b) o → (r : Ending) → Ends s c (candidates s p b) r → (d : Dec (Room [] (k ∷ E)))
             → Step s c (keeping c (placed c p o r)) (keeping E (to_hold k E d))
         go (some i) f r e d = step-placed i f r d
         go none f (found i m q) e d = gains _ _ (length-relocate c i m.path _) (moved-total i m q e _ (omega arith)) d
-        go none f (exhausted q) e (yes a) = absurd (not-assignable s L c p b l f q e E A.same a)
+        go none f (exhausted q) e (yes a) = absurd (not-assignable s L c p b l f q e E A.same (assignable (k ∷ E) a))
         go none f (exhausted q) e (no a) = stays (refused 9) refl
 
     -- ── lookup and release ──

@@ -1,5 +1,5 @@
--- Whether entries can be assigned, decided: each candidate of each entry is tried. The type of `dec_assignable` says that it decides the
--- plain meaning, so that nothing here has to be believed.
+-- Whether entries can be assigned, decided: each candidate of each entry is tried. That it decides the plain meaning is a theorem,
+-- `dec_assignable` (proofs/AssignmentDecided), so that nothing here has to be believed.
 -- Assumes nothing.
 use Rattle.std.proofs.Common.{subst, sym, inl, inr, arith}
 use Rattle.std.specs.Prelude.{List, [], ◌∷◌, ℕ, ◌+◌, ◌≤◌}
@@ -7,10 +7,10 @@ use Rattle.std.proofs.Math.Decide.{dec_lt, map_dec}
 use Rattle.lemmas.specs.Count.{occ, ◌among◌}
 use Rattle.lemmas.proofs.Count.{hit-cases, hit-refl}
 use Rattle.index.specs.Candidates.{Class}
-use Rattle.calls.specs.Assignment.{Fits, Assignable}
+use Rattle.calls.specs.Assignment.{Fits}
 
 -- an assignment beside the buckets already given
-abbrev Room : List ℕ → List Class → Type 0
+abbrev pub Room : List ℕ → List Class → Type 0
 Room us ks = (bs : List ℕ) × Fits ks bs × ((x : ℕ) → occ x bs + occ x us ≤ 4)
 
 module _ (ks : List Class) (us : List ℕ) (h : (x : ℕ) → occ x us ≤ 4) (rec : (vs : List ℕ) → ((x : ℕ) → occ x vs ≤ 4) → Dec (Room vs ks)) where
@@ -41,5 +41,6 @@ dec_room (k ∷ ks) us h = map_dec to back (tries ks us h (dec_room ks) k.set)
     back ([], f, o) = absurd f
     back (b ∷ bs, f, o) = (b, f.0, (bs, f.1, λ x. omega (arith, o x)))
 
-pub dec_assignable : (ks : List Class) → Dec (Assignable ks)
-dec_assignable ks = map_dec (λ r. (r.0, r.1, λ x. omega (arith, r.2 x))) (λ a. (a.0, a.1, λ x. omega (arith, a.2 x))) (dec_room ks [] (λ x. omega arith))
+-- entries beside none
+pub decided : (ks : List Class) → Dec (Room [] ks)
+decided ks = dec_room ks [] (λ x. omega arith)

@@ -17,7 +17,7 @@ use Rattle.calls.specs.Search.{Node, marked, found, search_for}
 use Rattle.calls.specs.Calls.{Said, Result, table_checks, scratch_checks, Sound, fresh, copies_in, lookup_in, release_in, hold_in}
 use Rattle.calls.specs.WrittenForms.{any_from, written, length_of}
 use Rattle.calls.specs.Multiset.{count, Same}
-use Rattle.calls.specs.AssignmentDecided.{dec_assignable}
+use Rattle.calls.specs.AssignmentDecided.{decided}
 use Rattle.calls.specs.Model.{Call, to_hold, to_release, to_lookup, model_call}
 use Rattle.calls.specs.Demand.{table_call, entries, forget, is_accepted, is_released}
 
@@ -126,7 +126,7 @@ pub record CallLaws (s : Settings) : Type 0 where
   pub listed_once : (c : List ℕ) (p b : ℕ) → b < s.buckets → total_once s.buckets (copies_at c p) (candidates s p b) ≡ copies_in s c p b
   -- any fingerprint placed from any bucket, looked for there, and taken out
   pub places : (c : List ℕ) (E : List Class) → Agree s c E → (p b : ℕ) → p ≢ 0 → b < s.buckets
-      → Step s c (keeping c (hold_in s c p b)) (keeping E (to_hold (class_at s p b) E (dec_assignable (class_at s p b ∷ E))))
+      → Step s c (keeping c (hold_in s c p b)) (keeping E (to_hold (class_at s p b) E (decided (class_at s p b ∷ E))))
   pub looks_up : (c : List ℕ) (E : List Class) → Agree s c E → (p b : ℕ) → p ≢ 0 → b < s.buckets
       → Step s c (keeping c (lookup_in s c p b)) (keeping E (to_lookup (class_at s p b) E))
   pub takes_out : (c : List ℕ) (E : List Class) → Agree s c E → (p b : ℕ) → p ≢ 0 → b < s.buckets

@@ -11,8 +11,7 @@ use Rattle.index.specs.Candidates.{Class, class_of}
 use Rattle.index.specs.declared.Settings.{Settings}
 use Rattle.calls.specs.Calls.{Said, released, absent, accepted, copies, scratch_checks}
 use Rattle.calls.specs.Multiset.{count, erase}
-use Rattle.calls.specs.Assignment.{Assignable}
-use Rattle.calls.specs.AssignmentDecided.{dec_assignable}
+use Rattle.calls.specs.AssignmentDecided.{Room, decided}
 
 -- a call as its caller makes it: the tag, and of a hold the length of scratch
 pub data Call : Type 0 where
@@ -25,7 +24,7 @@ abbrev pub ModelAct : Type 0
 ModelAct = Answer (Done Said (List Class))
 
 -- accepted if all entries and the new one can be assigned buckets, else 9
-abbrev pub to_hold : (k : Class) (E : List Class) → Dec (Assignable (k ∷ E)) → ModelAct
+abbrev pub to_hold : (k : Class) (E : List Class) → Dec (Room [] (k ∷ E)) → ModelAct
 to_hold k E (yes a) = given (done (accepted 0) (k ∷ E))
 to_hold k E (no n) = refused 9
 
@@ -39,7 +38,7 @@ abbrev pub to_lookup : Class → List Class → ModelAct
 to_lookup k E = given (done (copies (count k E)) E)
 
 abbrev pub model_act : Settings → List Class → Call → ModelAct
-model_act s E (hold_of t n) = to_hold (class_of s t) E (dec_assignable (class_of s t ∷ E))
+model_act s E (hold_of t n) = to_hold (class_of s t) E (decided (class_of s t ∷ E))
 model_act s E (release_of t) = to_release (class_of s t) E (dec_le 1 (count (class_of s t) E))
 model_act s E (lookup_of t) = to_lookup (class_of s t) E
 
