@@ -1,9 +1,9 @@
--- The pass over the cells: how many are filled, whether one is too wide, and what its answer tells.
+-- The pass over the cells: how many are filled, and whether one is too wide.
 -- Assumes nothing.
-use mathlib.Core.Path.{◌≡◌, refl, sym, ap, ◌∙◌}
+use mathlib.Core.Path.{◌≡◌, refl, ap}
 use mathlib.Core.Bool.{Bool, true, false, cond, not, ◌||◌, or_assoc}
 use mathlib.Core.List.{List}
-use Prim.Native.Nat.{ℕ, suc, ◌+◌, ◌^◌, ◌≤◌, ◌<◌, max}
+use Prim.Native.Nat.{ℕ, suc, ◌+◌, ◌≤◌, ◌<◌, max}
 use native.Mathlib.Numerals.{add-one}
 use native.Mathlib.Omega.{arith}
 use mir.Val.{bool_byte}
@@ -11,11 +11,8 @@ use lib.Dec.{eqb, leb}
 use lib.ListN.{length, drop, get_or, drop_of_length-le}
 use lib.Seq.{drop-cons}
 use Rattle.lemmas.proofs.Numbers.{max-wide}
-use Rattle.refusals.specs.Outcomes.{Answer, refused, given}
 use Rattle.calls.specs.Cells.{filled_count}
 use Rattle.calls.specs.WrittenForms.{any_from}
-use Rattle.file_form.specs.Writer.{body}
-use Rattle.file_length.specs.Internal.{body_size}
 
 pub bit-small : (t : Bool) → bool_byte t ≤ 1
 bit-small true = omega arith
@@ -39,28 +36,3 @@ module _ (c : List ℕ) (i : ℕ) where
 
   pub any-end : (n : ℕ) → length c ≤ i → any_from n (drop i c) ≡ false
   any-end n h = ap (any_from n) (drop_of_length-le c h)
-
--- ── what the pass answers, by whether a cell is too wide, and back ──
-module _ (w : ℕ) (c : List ℕ) where
-  abbrev by : Bool → Answer ℕ
-  by wide = cond wide (refused 17) (given (length (body c)))
-
-  pub is_wide : any_from (2 ^ w) c ≡ true → refused 17 ≡ body_size w c
-  is_wide h = sym (ap by h)
-
-  pub is-size : {n : ℕ} → any_from (2 ^ w) c ≡ false → n ≡ length (body c) → given n ≡ body_size w c
-  is-size h e = ap given e ∙ sym (ap by h)
-
-  pub wide-told : refused 17 ≡ body_size w c → any_from (2 ^ w) c ≡ true
-  wide-told e = go (any_from (2 ^ w) c) e
-    where
-      go : (b : Bool) → refused 17 ≡ by b → b ≡ true
-      go true f = refl
-      go false f = absurd (let z : ◌≡◌ {A = ℕ} 0 1 = cc in omega arith)
-
-  pub size-told : {n : ℕ} → given n ≡ body_size w c → (any_from (2 ^ w) c ≡ false) × (n ≡ length (body c))
-  size-told {n} e = go (any_from (2 ^ w) c) e
-    where
-      go : (b : Bool) → given n ≡ by b → (b ≡ false) × (n ≡ length (body c))
-      go true f = absurd (let z : ◌≡◌ {A = ℕ} 0 1 = cc in omega arith)
-      go false f = (refl, cc)

@@ -1,15 +1,11 @@
--- What the pass over the cells answers, by the cases of its answer's type, and what it has to answer.
+-- The contract of the pass over the cells.
 -- Assumes nothing.
-use Rattle.std.specs.Prelude.{cond, List, ℕ, ◌^◌, length}
-use Rattle.refusals.specs.Outcomes.{Answer, refused, given}
+use Rattle.std.specs.Prelude.{◌≡◌, true, false, List, ℕ, ◌^◌, length}
 use Rattle.calls.specs.WrittenForms.{any_from}
 use Rattle.file_form.specs.Writer.{body}
 use Rattle.file_length.specs.declared.Size.{Size}
 
-abbrev pub size_is : Size → Answer ℕ
-size_is (Size.Bytes n) = given n
-size_is Size.TooWide = refused 17
-
--- the bytes of the buckets, 17 where a cell is too wide
-abbrev pub body_size : ℕ → List ℕ → Answer ℕ
-body_size w c = cond (any_from (2 ^ w) c) (refused 17) (given (length (body c)))
+-- the bytes of the buckets, where no cell is too wide
+abbrev pub Sized : ℕ → List ℕ → Size → Type 0
+Sized w c (Size.Bytes n) = (any_from (2 ^ w) c ≡ false) × (n ≡ length (body c))
+Sized w c Size.TooWide = any_from (2 ^ w) c ≡ true

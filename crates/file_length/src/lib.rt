@@ -4,7 +4,7 @@
 ghost use Rattle.std.specs.Prelude.{◌≡◌, ◌+◌, ◌*◌, ◌<◌, ◌≤◌, max, length};
 ghost use Rattle.file_form.specs.Writer.{length_of_file};
 ghost use Rattle.file_length.specs.Answers.{length_is};
-ghost use Rattle.file_length.specs.Internal.{size_is, body_size};
+ghost use Rattle.file_length.specs.Internal.{Sized};
 
 use index::Settings;
 
@@ -51,7 +51,7 @@ fn block_end(from: usize, all: usize) -> usize
 // end: a loop that may stop at each cell is far slower. Cells are counted in 16 bits, of which a register has eight.
 fn body_size(table: &[u16], width: u32, buckets: usize) -> Size
     requires { (width ≤ 16) × (length table.now ≡ 4 * buckets) × (buckets ≤ 65536) }
-    ensures { size_is result ≡ body_size width table.now }
+    ensures { Sized width table.now result }
 {
     let mut top = 0;
     let mut filled = 0;

@@ -1,26 +1,28 @@
 -- The reader's steps: fields, cells, buckets, and the file as far as it has been read.
 -- Assumes nothing.
-use mathlib.Core.Path.{◌≡◌, refl, sym, ap, ap₂, ◌∙◌, subst}
+use mathlib.Core.Path.{◌≡◌, refl, sym, ap, ◌∙◌, subst}
 use mathlib.Core.Logic.{◌≢◌}
-use mathlib.Core.Bool.{Bool, true, false, cond, ◌||◌, ◌&&◌}
+use mathlib.Core.Bool.{Bool, true, false, not, cond, ◌||◌, ◌&&◌}
 use mathlib.Core.Option.{Option, none}
 use mathlib.Core.List.{List, [], ◌∷◌, ◌++◌, append_assoc, append-nil}
 use Prim.Native.Nat.{ℕ, zero, suc, ◌+◌, ◌*◌, ◌-◌, ◌^◌, ◌≤◌, ◌<◌}
 use native.Mathlib.Numerals.{add-one}
 use native.Mathlib.Omega.{arith}
-use borrow.Author.Tests.{le-leb, lt-leb, leb-true, leb-false}
+use native.Mathlib.Decide.{dec_le}
+use borrow.Author.Tests.{not-true, le-leb, lt-leb}
 use lib.Dec.{eqb, leb}
 use borrow.Rule.Slice.PartMut.{mid_of, post_of, put_mid, mid_len, same_len_mid}
 use lib.ListN.{length, take, drop, get_or, set, length-append, drop_of_length-le}
 use lib.Seq.{drop-cons, take_at, take_all, length-take-le}
-use Rattle.lemmas.proofs.Bools.{or-false-right}
+use Rattle.lemmas.proofs.Bools.{or-false-left, or-false-right}
+use Rattle.holdfile.proofs.Writing.{cond-le}
 use Rattle.refusals.specs.Checks.{Check, first_met, number_of}
 use Rattle.refusals.specs.Outcomes.{Done, done, Outcome, keeping}
 use Rattle.refusals.proofs.Cursor.{number-met}
 use Rattle.index.specs.declared.Settings.{Settings}
 use Rattle.holdfile.specs.declared.Field.{Field}
 use Rattle.holdfile.specs.declared.Pass.{Pass}
-use Rattle.holdfile.specs.Internal.{field_is, take_print, number_in, place_in, Taken, end_of, GivesCells, cells_read, Kept}
+use Rattle.holdfile.specs.Internal.{field_is, pass_is, pair_from, cell_from, bucket_size, GoodAt, end_of, GivesCells, cells_read}
 use Rattle.file_form.specs.Bytes.{bit0, bit1, bit2, bit3}
 use Rattle.file_form.specs.Parsed.{Parsed, stop, next, and_then, refuse_if, checked, answer_of}
 use Rattle.file_form.proofs.Laws.{in_front, in-front-append}
@@ -47,31 +49,6 @@ module _ (l : List ℕ) (at : ℕ) where
       go [] k = refl
       go (x ∷ []) k = refl
       go (x ∷ y ∷ r) k = absurd (omega arith)
-
--- a fingerprint, whose bytes are there
-pub print-read : (t : Bool) (l : List ℕ) (at : ℕ) → at + 2 ≤ length l
-    → next (cond t (get_or l at 0 + 256 * get_or l (at + 1) 0) 0) (drop (at + cond t 2 0) l) ≡ take_print t (drop at l)
-print-read true l at h =
-    let n : at + 1 + 1 ≡ at + 2 = omega arith in
-    sym (take-two l at (omega arith) ∙ ap (λ (k : ℕ). next (get_or l at 0 + 256 * get_or l (at + 1) 0) (drop k l)) n)
-print-read false l at h = ap (λ (k : ℕ). next 0 (drop k l)) (let z : at + 0 ≡ at = omega arith in z)
-
--- what is known of one that was taken
-pub record Print (t : Bool) (at v to : ℕ) : Type 0 where
-  pub small : v < 65536
-  pub zero-else : v ≡ cond t v 0
-  pub near : to ≤ at + 2
-
-pub print-is : (l : List ℕ) (t : Bool) (at : ℕ) {f : Field} {v to : ℕ} → Taken l (take_print t (drop at l)) 65536 (at + 2) f → f ≡ Field.Value v to → Print t at v to
-print-is l t at {f} {v} {to} k e = record {
-  small = omega (arith, k.small, ap number_in e);
-  zero-else = go t (sym (ap (field_is l) e) ∙ k.is);
-  near = omega (arith, k.near, ap place_in e);
-}
-  where
-    go : (b : Bool) → next v (drop to l) ≡ take_print b (drop at l) → v ≡ cond b v 0
-    go true q = refl
-    go false q = cc
 
 -- ── a cell's test ──
 abbrev pub unfit_of : ℕ → Bool → ℕ → Bool
@@ -101,94 +78,239 @@ pub bucket-opened : (w : ℕ) (l : List ℕ) → read_bucket w l ≡ and_then (t
 unfolding read_bucket read_cells
 bucket-opened w l = refl
 
--- as the code tests it, by the limit of the width
-pub fit_is : (w limit v : ℕ) (t : Bool) {r : Bool} → limit ≡ 2 ^ w → r ≡ (t && (eqb v 0 || leb limit v)) → (b : Bool) → r ≡ b → unfit_of w t v ≡ b
-fit_is w limit v t h e b q = ap (λ (k : ℕ). t && (eqb v 0 || leb k v)) (sym h) ∙ sym e ∙ q
+-- ── where a bucket ends: the ends of its cells, one after the other ──
+abbrev pub ends3 : ℕ → ℕ → List ℕ → Parsed (Unit {0})
+ends3 w m rest = end_of (read_cell w (bit3 m) rest)
 
--- a whole that has come to a cell
-abbrev pub cut : ℕ → Bool → ℕ → List ℕ → Parsed ℕ
-cut w t v rest = refuse_if (unfit_of w t v) 14 (next v rest)
+abbrev pub ends2 : ℕ → ℕ → List ℕ → Parsed (Unit {0})
+ends2 w m rest = and_then (end_of (read_cell w (bit2 m) rest)) (λ u more. ends3 w m more)
 
-cell_cut : (w : ℕ) (t : Bool) (l : List ℕ) → read_cell w t l ≡ and_then (take_print t l) (cut w t)
-cell_cut w true l = refl
-cell_cut w false l = refl
+abbrev pub ends1 : ℕ → ℕ → List ℕ → Parsed (Unit {0})
+ends1 w m rest = and_then (end_of (read_cell w (bit1 m) rest)) (λ u more. ends2 w m more)
 
-pub record AtPrint (whole : Parsed (List ℕ)) (w : ℕ) (t : Bool) (l : List ℕ) (at : ℕ) (then : ℕ → List ℕ → Parsed (List ℕ)) : Type 0 where
-  pub is : whole ≡ and_then (read_cell w t (drop at l)) then
+abbrev pub ends0 : ℕ → ℕ → List ℕ → Parsed (Unit {0})
+ends0 w m rest = and_then (end_of (read_cell w (bit0 m) rest)) (λ u more. ends1 w m more)
 
--- its fingerprint was asked for: the bytes end, or it does not fit, or what follows is behind it
-module _ {whole : Parsed (List ℕ)} {w : ℕ} {t : Bool} {l : List ℕ} {at : ℕ} {then : ℕ → List ℕ → Parsed (List ℕ)} (k : AtPrint whole w t l at then)
-    {f : Field} (q : field_is l f ≡ take_print t (drop at l)) where
-  asked : (g : Field) → f ≡ g → whole ≡ and_then (and_then (field_is l g) (cut w t)) then
-  asked g e =
-      k.is
-      ∙ ap (λ (p : Parsed ℕ). and_then p then) (cell_cut w t (drop at l))
-      ∙ ap (λ (p : Parsed ℕ). and_then (and_then p (cut w t)) then) (sym q ∙ ap (field_is l) e)
+end-then : {A B : Type 0} (p : Parsed A) (f : A → List ℕ → Parsed B) (g : List ℕ → Parsed (Unit {0})) → ((a : A) (rest : List ℕ) → end_of (f a rest) ≡ g rest)
+    → end_of (and_then p f) ≡ and_then (end_of p) (λ u rest. g rest)
+end-then (stop n) f g h = refl
+end-then (next a rest) f g h = h a rest
 
-  pub print-short : f ≡ Field.Short → stop 11 ≡ whole
-  print-short e = sym (asked Field.Short e)
+cells-end : (w m : ℕ) (l : List ℕ) → end_of (all_cells w m l) ≡ ends0 w m l
+cells-end w m l =
+    end-then (read_cell w (bit0 m) l) (behind0 w m) (ends1 w m) (λ a r1.
+    end-then (read_cell w (bit1 m) r1) (behind1 w m a) (ends2 w m) (λ b r2.
+    end-then (read_cell w (bit2 m) r2) (behind2 w m a b) (ends3 w m) (λ c r3.
+    last (read_cell w (bit3 m) r3) (behind3 a b c) (λ d rest. refl))))
+  where
+    last : (p : Parsed ℕ) (f : ℕ → List ℕ → Parsed (List ℕ)) → ((d : ℕ) (rest : List ℕ) → end_of (f d rest) ≡ next tt rest) → end_of (and_then p f) ≡ end_of p
+    last (stop n) f h = refl
+    last (next d rest) f h = h d rest
 
-  pub print-told : {v to : ℕ} → f ≡ Field.Value v to → (b : Bool) → unfit_of w t v ≡ b → whole ≡ and_then (refuse_if b 14 (next v (drop to l))) then
-  print-told {v} {to} e b u = asked (Field.Value v to) e ∙ ap (λ (c : Bool). and_then (refuse_if c 14 (next v (drop to l))) then) u
-
--- and so the byte that marks the cells
+-- a bucket whose byte was asked for: it is not there, marks more than four cells, or the cells follow
 module _ (w : ℕ) (l : List ℕ) (at : ℕ) {f : Field} (q : field_is l f ≡ take_byte (drop at l)) where
   opened : (g : Field) → f ≡ g → read_bucket w (drop at l) ≡ and_then (field_is l g) (behind_marks w)
   opened g e = bucket-opened w (drop at l) ∙ ap (λ (p : Parsed ℕ). and_then p (behind_marks w)) (sym q ∙ ap (field_is l) e)
 
-  pub no-bucket : f ≡ Field.Short → stop 11 ≡ read_bucket w (drop at l)
-  no-bucket e = sym (opened Field.Short e)
+  pub no-bucket : f ≡ Field.Short → stop 11 ≡ end_of (read_bucket w (drop at l))
+  no-bucket e = sym (ap end_of (opened Field.Short e))
 
   module _ {m to : ℕ} (e : f ≡ Field.Value m to) where
     tested : (b : Bool) → leb 16 m ≡ b → read_bucket w (drop at l) ≡ refuse_if b 13 (all_cells w m (drop to l))
     tested b h = opened (Field.Value m to) e ∙ ap (λ (c : Bool). refuse_if c 13 (all_cells w m (drop to l))) h
 
-    pub high-marks : 16 ≤ m → stop 13 ≡ read_bucket w (drop at l)
-    high-marks h = sym (tested true (le-leb 16 m h))
+    pub high-marks : 16 ≤ m → stop 13 ≡ end_of (read_bucket w (drop at l))
+    high-marks h = sym (ap end_of (tested true (le-leb 16 m h)))
 
-    pub low-marks : m < 16 → AtPrint (read_bucket w (drop at l)) w (bit0 m) l to (behind0 w m)
-    low-marks h = record { is = tested false (lt-leb 16 m h) }
+    pub low-marks : m < 16 → end_of (read_bucket w (drop at l)) ≡ ends0 w m (drop to l)
+    low-marks h = ap end_of (tested false (lt-leb 16 m h)) ∙ cells-end w m (drop to l)
 
--- a fingerprint that fits, by the limit of the width as the code tests it, leads to the next one
-module _ {whole : Parsed (List ℕ)} {w limit : ℕ} {l : List ℕ} (m : ℕ) (h : limit ≡ 2 ^ w) {at v to : ℕ} {f : Field} {r : Bool} (e : f ≡ Field.Value v to) where
-  pub on1 : AtPrint whole w (bit0 m) l at (behind0 w m) → field_is l f ≡ take_print (bit0 m) (drop at l) → r ≡ (bit0 m && (eqb v 0 || leb limit v)) → r ≡ false
-      → AtPrint whole w (bit1 m) l to (behind1 w m v)
-  on1 k q u z = record { is = print-told k q e false (fit_is w limit v (bit0 m) h u false z) }
+-- and a marked cell whose bytes were asked for
+module _ (w : ℕ) (l : List ℕ) (at : ℕ) {f : Field} (q : field_is l f ≡ take_pair (drop at l)) where
+  cut : (g : Field) → f ≡ g → end_of (read_cell w true (drop at l)) ≡ end_of (and_then (field_is l g) (λ x rest. refuse_if (eqb x 0 || leb (2 ^ w) x) 14 (next x rest)))
+  cut g e = ap (λ (p : Parsed ℕ). end_of (and_then p (λ x rest. refuse_if (eqb x 0 || leb (2 ^ w) x) 14 (next x rest)))) (sym q ∙ ap (field_is l) e)
 
-  pub on2 : (a : ℕ) → AtPrint whole w (bit1 m) l at (behind1 w m a) → field_is l f ≡ take_print (bit1 m) (drop at l) → r ≡ (bit1 m && (eqb v 0 || leb limit v)) → r ≡ false
-      → AtPrint whole w (bit2 m) l to (behind2 w m a v)
-  on2 a k q u z = record { is = print-told k q e false (fit_is w limit v (bit1 m) h u false z) }
+  pub cell-short : f ≡ Field.Short → stop 11 ≡ end_of (read_cell w true (drop at l))
+  cell-short e = sym (cut Field.Short e)
 
-  pub on3 : (a b : ℕ) → AtPrint whole w (bit2 m) l at (behind2 w m a b) → field_is l f ≡ take_print (bit2 m) (drop at l) → r ≡ (bit2 m && (eqb v 0 || leb limit v)) → r ≡ false
-      → AtPrint whole w (bit3 m) l to (behind3 a b v)
-  on3 a b k q u z = record { is = print-told k q e false (fit_is w limit v (bit2 m) h u false z) }
+  pub cell-whole : {v to : ℕ} → f ≡ Field.Value v to → (b : Bool) → unfit_of w true v ≡ b → end_of (read_cell w true (drop at l)) ≡ end_of (refuse_if b 14 (next v (drop to l)))
+  cell-whole {v} {to} e b h = cut (Field.Value v to) e ∙ ap (λ (c : Bool). end_of (refuse_if c 14 (next v (drop to l)))) h
 
--- what is known to be there, or was asked for, is there
-pub there : (ahead : Bool) (x n : ℕ) → (ahead || leb x n) ≡ true → cond ahead x 0 ≤ n → x ≤ n
-there true x n e p = p
-there false x n e p = leb-true x n e
+-- a whole that has come to a cell: it stops there, or goes on behind it
+pub record AtBucketCell (whole p : Parsed (Unit {0})) (then : List ℕ → Parsed (Unit {0})) : Type 0 where
+  pub is : whole ≡ and_then p (λ u rest. then rest)
 
-pub not_there : (ahead : Bool) (x n : ℕ) → (ahead || leb x n) ≡ false → n < x
-not_there ahead x n e = leb-false x n (or-false-right ahead (leb x n) e)
+module _ {whole p : Parsed (Unit {0})} {then : List ℕ → Parsed (Unit {0})} (l : List ℕ) {f : Pass} (k : AtBucketCell whole p then) (q : pass_is l f ≡ p) where
+  pub cell-stops : {n : ℕ} → f ≡ Pass.Refused n → pass_is l f ≡ whole
+  cell-stops {n} e = ap (pass_is l) e ∙ sym (k.is ∙ ap (λ (x : Parsed (Unit {0})). and_then x (λ u rest. then rest)) (sym q ∙ ap (pass_is l) e))
 
-pub sooner : (ahead : Bool) (x y n : ℕ) → cond ahead x 0 ≤ n → y ≤ x → cond ahead y 0 ≤ n
-sooner true x y n p h = omega arith
-sooner false x y n p h = p
+  pub cell-goes-on : {at : ℕ} → f ≡ Pass.End at → whole ≡ then (drop at l)
+  cell-goes-on e = k.is ∙ ap (λ (x : Parsed (Unit {0})). and_then x (λ u rest. then rest)) (sym q ∙ ap (pass_is l) e)
 
--- what the second pass is told of a bucket that passes
-pub kept_of : (l part : List ℕ) (r : Pass) {p q : Parsed (List ℕ)} → p ≡ q → Kept l p part r → Kept l q part r
-kept_of l part r e k = subst (λ (x : Parsed (List ℕ)). Kept l x part r) e k
+-- ── a bucket by its marks: where its cells stand, and what they are ──
+abbrev pub second : ℕ → ℕ → ℕ
+second at m = at + 1 + cond (bit0 m) 2 0
 
-module _ (l part : List ℕ) (r : Pass) where
-  pub kept_next : (p : Parsed (List ℕ)) → GivesCells p → Kept l p part r → {end : ℕ} → r ≡ Pass.End end → p ≡ next part (drop end l)
-  kept_next (stop n) g k e = absurd g
-  kept_next (next c rest) g k {end} e =
-      let same : rest ≡ drop end l = cc in
-      ap₂ (λ (x y : List ℕ). next x y) (sym k.0) same
+abbrev pub third : ℕ → ℕ → ℕ
+third at m = second at m + cond (bit1 m) 2 0
 
-  pub kept_on : (p : Parsed (List ℕ)) → GivesCells p → Kept l p part r → {n : ℕ} → r ≡ Pass.Refused n → ⊥
-  kept_on (stop m) g k e = g
-  kept_on (next c rest) g k {n} e = let z : ◌≡◌ {A = ℕ} 0 1 = cc in omega arith
+abbrev pub fourth : ℕ → ℕ → ℕ
+fourth at m = third at m + cond (bit2 m) 2 0
+
+abbrev pub cells_of : List ℕ → ℕ → ℕ → List ℕ
+cells_of l at m = cell_from l (at + 1) (bit0 m) ∷ cell_from l (second at m) (bit1 m) ∷ cell_from l (third at m) (bit2 m) ∷ cell_from l (fourth at m) (bit3 m) ∷ []
+
+-- as the code goes from one to the next
+pub places-are : (at m p q r : ℕ) → p ≡ cond (bit0 m) 2 0 → q ≡ cond (bit1 m) 2 0 → r ≡ cond (bit2 m) 2 0
+    → (at + 1 + p ≡ second at m) × (at + 1 + p + q ≡ third at m) × (at + 1 + p + q + r ≡ fourth at m)
+places-are at m p q r e f g = (omega arith, omega arith, omega arith)
+
+pub places-end : (at m : ℕ) → fourth at m + cond (bit3 m) 2 0 ≡ at + bucket_size m
+places-end at m = omega arith
+
+pub size_few : (m : ℕ) → bucket_size m ≤ 9
+size_few m = omega (arith, cond-le (bit0 m) 2, cond-le (bit1 m) 2, cond-le (bit2 m) 2, cond-le (bit3 m) 2)
+
+-- a marked cell that stands in the bytes, by its test; one that fits, or is not marked
+module _ {B : Type 0} (w : ℕ) (l : List ℕ) (at : ℕ) (then : ℕ → List ℕ → Parsed B) where
+  cell-read : at + 2 ≤ length l → (b : Bool) → unfit_of w true (pair_from l at) ≡ b
+      → and_then (read_cell w true (drop at l)) then ≡ and_then (refuse_if b 14 (next (pair_from l at) (drop (at + 2) l))) then
+  cell-read h b u =
+      let n : at + 1 + 1 ≡ at + 2 = omega arith in
+      ap (λ (p : Parsed ℕ). and_then (and_then p (λ x rest. refuse_if (eqb x 0 || leb (2 ^ w) x) 14 (next x rest))) then)
+      (take-two l at (omega arith) ∙ ap (λ (k : ℕ). next (pair_from l at) (drop k l)) n)
+      ∙ ap (λ (c : Bool). and_then (refuse_if c 14 (next (pair_from l at) (drop (at + 2) l))) then) u
+
+  cell-known : (t : Bool) → at + 2 ≤ length l → unfit_of w t (pair_from l at) ≡ false → and_then (read_cell w t (drop at l)) then ≡ then (cell_from l at t) (drop (at + cond t 2 0) l)
+  cell-known true h u = cell-read h false u
+  cell-known false h u = ap (λ (k : ℕ). then 0 (drop k l)) (let n : at ≡ at + 0 = omega arith in n)
+
+-- a bucket whose byte is there, by its test
+bucket-tested : (w : ℕ) (l : List ℕ) (at : ℕ) → at < length l → (b : Bool) → leb 16 (get_or l at 0) ≡ b
+    → read_bucket w (drop at l) ≡ refuse_if b 13 (all_cells w (get_or l at 0) (drop (at + 1) l))
+bucket-tested w l at h b e =
+    bucket-opened w (drop at l)
+    ∙ ap (λ (p : Parsed ℕ). and_then p (behind_marks w)) (take-byte l at h)
+    ∙ ap (λ (c : Bool). refuse_if c 13 (all_cells w (get_or l at 0) (drop (at + 1) l))) e
+
+-- where nine bytes are left, every test may be made, whatever is marked
+module _ (w : ℕ) (l : List ℕ) (at : ℕ) (room : at + 9 ≤ length l) where
+  abbrev m : ℕ
+  m = get_or l at 0
+
+  abbrev u0 : Bool
+  u0 = unfit_of w (bit0 m) (pair_from l (at + 1))
+
+  abbrev u1 : Bool
+  u1 = unfit_of w (bit1 m) (pair_from l (second at m))
+
+  abbrev u2 : Bool
+  u2 = unfit_of w (bit2 m) (pair_from l (third at m))
+
+  abbrev u3 : Bool
+  u3 = unfit_of w (bit3 m) (pair_from l (fourth at m))
+
+  good-bucket : leb 16 m ≡ false → u0 ≡ false → u1 ≡ false → u2 ≡ false → u3 ≡ false → read_bucket w (drop at l) ≡ next (cells_of l at m) (drop (at + bucket_size m) l)
+  good-bucket low e0 e1 e2 e3 =
+      let b0 = cond-le (bit0 m) 2 in
+      let b1 = cond-le (bit1 m) 2 in
+      let b2 = cond-le (bit2 m) 2 in
+      bucket-tested w l at (omega arith) false low
+      ∙ cell-known w l (at + 1) (behind0 w m) (bit0 m) (omega arith) e0
+      ∙ cell-known w l (second at m) (behind1 w m (cell_from l (at + 1) (bit0 m))) (bit1 m) (omega arith) e1
+      ∙ cell-known w l (third at m) (behind2 w m (cell_from l (at + 1) (bit0 m)) (cell_from l (second at m) (bit1 m))) (bit2 m) (omega arith) e2
+      ∙ cell-known w l (fourth at m) (behind3 (cell_from l (at + 1) (bit0 m)) (cell_from l (second at m) (bit1 m)) (cell_from l (third at m) (bit2 m))) (bit3 m) (omega arith) e3
+      ∙ ap (λ (k : ℕ). next (cells_of l at m) (drop k l)) (places-end at m)
+
+  pub good-said : (r : Bool) → r ≡ not ((leb 16 m || (u0 || u1)) || (u2 || u3)) → GoodAt w l at r
+  good-said false e = tt
+  good-said true e =
+      let none : ((leb 16 m || (u0 || u1)) || (u2 || u3)) ≡ false = not-true ((leb 16 m || (u0 || u1)) || (u2 || u3)) (sym e) in
+      let low = or-false-left (leb 16 m || (u0 || u1)) (u2 || u3) none in
+      let high = or-false-right (leb 16 m || (u0 || u1)) (u2 || u3) none in
+      let firsts = or-false-right (leb 16 m) (u0 || u1) low in
+      ap end_of (good-bucket (or-false-left (leb 16 m) (u0 || u1) low) (or-false-left u0 u1 firsts) (or-false-right u0 u1 firsts) (or-false-left u2 u3 high) (or-false-right u2 u3 high))
+
+-- ── a bucket that has passed ──
+stops-never : {p : Parsed (List ℕ)} {n : ℕ} → GivesCells p → p ≡ stop n → ⊥
+stops-never h e = subst GivesCells e h
+
+-- a whole that passes, and has come to a cell
+record Come (whole : Parsed (List ℕ)) (w : ℕ) (t : Bool) (l : List ℕ) (at : ℕ) (then : ℕ → List ℕ → Parsed (List ℕ)) : Type 0 where
+  pub is : whole ≡ and_then (read_cell w t (drop at l)) then
+  pub within : at ≤ length l
+  pub passed : GivesCells whole
+
+module _ {whole : Parsed (List ℕ)} {w : ℕ} {t : Bool} {l : List ℕ} {at : ℕ} {then : ℕ → List ℕ → Parsed (List ℕ)} (k : Come whole w t l at then) where
+  -- the cell stands whole in the bytes, and they are its value
+  come-cell : (at + cond t 2 0 ≤ length l) × (whole ≡ then (cell_from l at t) (drop (at + cond t 2 0) l))
+  come-cell = go t k.is
+    where
+      fit : at + 2 ≤ length l → (b : Bool) → unfit_of w true (pair_from l at) ≡ b → whole ≡ and_then (read_cell w true (drop at l)) then → whole ≡ then (pair_from l at) (drop (at + 2) l)
+      fit h true u e = absurd (stops-never k.passed (e ∙ cell-read w l at then h true u))
+      fit h false u e = e ∙ cell-read w l at then h false u
+
+      go : (b : Bool) → whole ≡ and_then (read_cell w b (drop at l)) then → (at + cond b 2 0 ≤ length l) × (whole ≡ then (cell_from l at b) (drop (at + cond b 2 0) l))
+      go false e = (omega (arith, k.within), e ∙ ap (λ (n : ℕ). then 0 (drop n l)) (let z : at ≡ at + 0 = omega arith in z))
+      go true e = elim (dec_le (at + 2) (length l)) [
+        | yes h ↦ (h, fit h (unfit_of w true (pair_from l at)) refl e)
+        | no h ↦ absurd
+            (stops-never k.passed
+            (e ∙ ap (λ (p : Parsed ℕ). and_then (and_then p (λ x rest. refuse_if (eqb x 0 || leb (2 ^ w) x) 14 (next x rest))) then) (no-two l at (omega arith))))
+      ]
+
+  come-next : (u : Bool) (more : ℕ → List ℕ → Parsed (List ℕ)) → ((rest : List ℕ) → then (cell_from l at t) rest ≡ and_then (read_cell w u rest) more) → Come whole w u l (at + cond t 2 0) more
+  come-next u more f = record { is = come-cell.1 ∙ f (drop (at + cond t 2 0) l); within = come-cell.0; passed = k.passed }
+
+-- the byte that marks the cells
+module _ (w : ℕ) (l : List ℕ) (at : ℕ) (h : GivesCells (read_bucket w (drop at l))) where
+  pub marks-in : at < length l
+  marks-in = elim (dec_le (length l) at) [
+    | yes e ↦ absurd (stops-never h (bucket-opened w (drop at l) ∙ ap (λ (p : Parsed ℕ). and_then p (behind_marks w)) (no_byte l at e)))
+    | no e ↦ omega arith
+  ]
+
+  come-first : Come (read_bucket w (drop at l)) w (bit0 (get_or l at 0)) l (at + 1) (behind0 w (get_or l at 0))
+  come-first = record { is = low (leb 16 (get_or l at 0)) refl; within = omega (arith, marks-in); passed = h }
+    where
+      low : (b : Bool) → leb 16 (get_or l at 0) ≡ b → read_bucket w (drop at l) ≡ all_cells w (get_or l at 0) (drop (at + 1) l)
+      low true q = absurd (stops-never h (bucket-tested w l at marks-in true q))
+      low false q = bucket-tested w l at marks-in false q
+
+-- the whole bucket, and where its cells stand
+pub record Passed (w : ℕ) (l : List ℕ) (at : ℕ) : Type 0 where
+  pub is : read_bucket w (drop at l) ≡ next (cells_of l at (get_or l at 0)) (drop (at + bucket_size (get_or l at 0)) l)
+  pub inside-second : second at (get_or l at 0) ≤ length l
+  pub inside-third : third at (get_or l at 0) ≤ length l
+  pub inside-fourth : fourth at (get_or l at 0) ≤ length l
+  pub inside : at + bucket_size (get_or l at 0) ≤ length l
+
+pub bucket_passed : (w : ℕ) (l : List ℕ) (at : ℕ) → GivesCells (read_bucket w (drop at l)) → Passed w l at
+bucket_passed w l at h =
+    let m : ℕ = get_or l at 0 in
+    let x : ℕ = cell_from l (at + 1) (bit0 m) in
+    let y : ℕ = cell_from l (second at m) (bit1 m) in
+    let b = come-next (come-first w l at h) (bit1 m) (behind1 w m x) (λ rest. refl) in
+    let c = come-next b (bit2 m) (behind2 w m x y) (λ rest. refl) in
+    let d = come-next c (bit3 m) (behind3 x y (cell_from l (third at m) (bit2 m))) (λ rest. refl) in
+    record {
+      is = (come-cell d).1 ∙ ap (λ (k : ℕ). next (cells_of l at m) (drop k l)) (places-end at m);
+      inside-second = b.within;
+      inside-third = c.within;
+      inside-fourth = d.within;
+      inside = omega (arith, (come-cell d).0);
+    }
+
+-- two bytes are there at each place where nine are left, and none have to be where not
+pub passed-rooms : (ahead : Bool) {w : ℕ} {l : List ℕ} {at : ℕ} → at + cond ahead 9 0 ≤ length l → Passed w l at
+    → (second at (get_or l at 0) + cond ahead 2 0 ≤ length l) × (third at (get_or l at 0) + cond ahead 2 0 ≤ length l) × (fourth at (get_or l at 0) + cond ahead 2 0 ≤ length l)
+passed-rooms true {w} {l} {at} h P =
+    let m = get_or l at 0 in
+    let b0 = cond-le (bit0 m) 2 in
+    let b1 = cond-le (bit1 m) 2 in
+    let b2 = cond-le (bit2 m) 2 in
+    (omega arith, omega arith, omega arith)
+passed-rooms false h P = (omega (arith, P.inside-second), omega (arith, P.inside-third), omega (arith, P.inside-fourth))
 
 -- ── buckets ──
 -- a part of four cells put into the table: what stands up to its end
@@ -264,6 +386,18 @@ gives-behind f (next c end) h = tt
 passes-rest : (f : List ℕ) (p whole : Parsed (List ℕ)) → in_front f p ≡ whole → GivesCells whole → GivesCells p
 passes-rest f p whole e h = gives-behind f p (subst GivesCells (sym e) h)
 
+-- each bucket has a byte at least
+buckets-room : (w n : ℕ) (l : List ℕ) (at : ℕ) → at ≤ length l → GivesCells (read_buckets w n (drop at l)) → at + n ≤ length l
+buckets-room w zero l at h p = omega arith
+buckets-room w (suc n) l at h p =
+    let one : 0 < suc n = omega arith in
+    let less : suc n - 1 ≡ n = omega arith in
+    let k = bucket_passed w l at (passes-first w (suc n) (drop at l) one p) in
+    let behind = at + bucket_size (get_or l at 0) in
+    let rest : GivesCells (read_buckets w (suc n - 1) (drop behind l)) =
+    gives-behind (cells_of l at (get_or l at 0)) (read_buckets w (suc n - 1) (drop behind l)) (subst GivesCells (bucket-then w (suc n) (drop at l) one _ _ k.is) p) in
+    omega (arith, buckets-room w n l behind k.inside (subst (λ (j : ℕ). GivesCells (read_buckets w j (drop behind l))) less rest))
+
 pub none_more : (w : ℕ) (l : List ℕ) → read_buckets w 0 l ≡ next [] l
 unfolding read_buckets
 none_more w l = refl
@@ -272,6 +406,9 @@ store-end : (w left i : ℕ) (l table : List ℕ) (all : Parsed (List ℕ)) → 
 store-end w left i l table all h e k =
     let z : left ≡ 0 = omega arith in
     sym (ap cells_read (sym e ∙ ap (in_front (take i table)) (ap (λ (n : ℕ). read_buckets w n l) z ∙ none_more w l)) ∙ append-nil (take i table) ∙ take_all i table (omega arith))
+
+pub four_same : {a b c d x y z w : ℕ} → a ≡ x → b ≡ y → c ≡ z → d ≡ w → a ∷ b ∷ c ∷ d ∷ [] ≡ x ∷ y ∷ z ∷ w ∷ []
+four_same e f g h = rw (e, f, g, h) refl
 
 -- ── the second pass ──
 -- the table so far, in front of what is left to read of a whole that passes
@@ -285,9 +422,15 @@ module _ {bytes : List ℕ} {whole : Parsed (List ℕ)} {w : ℕ} {table : List 
     gives : GivesCells (read_buckets w left (drop at bytes))
     gives = passes-rest (take i table) (read_buckets w left (drop at bytes)) whole U.is U.passes
 
-    -- a bucket that passes
+    -- a bucket that passes, within the bytes, and eight bytes behind it where as many buckets are left
     pub upto-passes : GivesCells (read_bucket w (drop at bytes))
     upto-passes = passes-first w left (drop at bytes) more gives
+
+    pub upto-inside : at < length bytes
+    upto-inside = marks-in w bytes at upto-passes
+
+    pub upto-ahead : at + left ≤ length bytes
+    upto-ahead = buckets-room w left bytes at (omega (arith, upto-inside)) gives
 
     pub upto-room : i + 4 ≤ length table
     upto-room = omega (arith, U.size)
@@ -408,9 +551,9 @@ module _ (s : Settings) (rest : List ℕ) where
 pub ends_as : (t : List ℕ) {p q : Parsed (Done Settings (List ℕ))} → p ≡ q → keeping t (answer_of q) ≡ keeping t (answer_of p)
 ends_as t e = ap (λ (x : Parsed (Done Settings (List ℕ))). keeping t (answer_of x)) (sym e)
 
-pub file_read : (l t : List ℕ) (h : Parsed Settings) {r : Outcome Settings (List ℕ)} → h ≡ read_header l → r ≡ keeping t (answer_of (and_then h (after_header (into t)))) → r ≡ read_file l t
+pub file-read : (l t : List ℕ) (h : Parsed Settings) {r : Outcome Settings (List ℕ)} → h ≡ read_header l → r ≡ keeping t (answer_of (and_then h (after_header (into t)))) → r ≡ read_file l t
 unfolding read_file read_all
-file_read l t h e q = q ∙ ap (λ (p : Parsed Settings). keeping t (answer_of (and_then p (after_header (into t))))) e
+file-read l t h e q = q ∙ ap (λ (p : Parsed Settings). keeping t (answer_of (and_then p (after_header (into t))))) e
 
 -- a file without a table
 module _ (checks : Settings → List Check) (l : List ℕ) where

@@ -1,11 +1,11 @@
 -- Contracts of the functions inside: the writer's and the reader's definitions, cut where the code is cut.
 -- Assumes nothing.
-use Rattle.std.specs.Prelude.{◌≡◌, Bool, true, false, cond, List, [], ◌∷◌, ℕ, ◌+◌, ◌<◌, ◌≤◌, drop, get_or}
+use Rattle.std.specs.Prelude.{◌≡◌, Bool, true, false, cond, List, [], ℕ, ◌+◌, ◌*◌, drop, get_or}
 use Rattle.file_form.specs.Writer.{bucket_bytes}
 use Rattle.file_form.specs.Parsed.{Parsed, stop, next}
-use Rattle.file_form.specs.Reader.{take_pair}
+use Rattle.file_form.specs.Bytes.{bit0, bit1, bit2, bit3}
+use Rattle.file_form.specs.Reader.{read_bucket}
 use Rattle.holdfile.specs.declared.Field.{Field}
-use Rattle.holdfile.specs.declared.BucketRead.{BucketRead}
 use Rattle.holdfile.specs.declared.Pass.{Pass}
 
 -- ── writing ──
@@ -22,33 +22,21 @@ abbrev pub field_is : List ℕ → Field → Parsed ℕ
 field_is l (Field.Value v at) = next v (drop at l)
 field_is l Field.Short = stop 11
 
--- a fingerprint where it is marked, else 0, which takes no bytes
-abbrev pub take_print : Bool → List ℕ → Parsed ℕ
-take_print true l = take_pair l
-take_print false l = next 0 l
-
--- its parts, 0 where there is none
-abbrev pub number_in : Field → ℕ
-number_in (Field.Value v at) = v
-number_in Field.Short = 0
-
-abbrev pub place_in : Field → ℕ
-place_in (Field.Value v at) = at
-place_in Field.Short = 0
-
--- what was asked for at a place: a number below so much, of at most so many bytes
-pub record Taken (l : List ℕ) (p : Parsed ℕ) (top far : ℕ) (r : Field) : Type 0 where
-  pub is : field_is l r ≡ p
-  pub small : number_in r < top
-  pub near : place_in r ≤ far
-
-abbrev pub bucket_is : List ℕ → BucketRead → Parsed (List ℕ)
-bucket_is l (BucketRead.Bucket f at) = next (f.a ∷ f.b ∷ f.c ∷ f.d ∷ []) (drop at l)
-bucket_is l (BucketRead.Refused n) = stop n
-
 abbrev pub pass_is : List ℕ → Pass → Parsed (Unit {0})
 pass_is l (Pass.End at) = next tt (drop at l)
 pass_is l (Pass.Refused n) = stop n
+
+-- two bytes from a place on, as a number
+abbrev pub pair_from : List ℕ → ℕ → ℕ
+pair_from l at = get_or l at 0 + 256 * get_or l (at + 1) 0
+
+-- a cell, marked or not
+abbrev pub cell_from : List ℕ → ℕ → Bool → ℕ
+cell_from l at stands = cond stands (pair_from l at) 0
+
+-- a bucket's bytes, by the one that marks its cells
+abbrev pub bucket_size : ℕ → ℕ
+bucket_size m = 1 + cond (bit0 m) 2 0 + cond (bit1 m) 2 0 + cond (bit2 m) 2 0 + cond (bit3 m) 2 0
 
 -- where a reading ends, without what it gives; whether it gives anything; and what
 abbrev pub end_of : {A : Type 0} → Parsed A → Parsed (Unit {0})
@@ -63,7 +51,7 @@ abbrev pub cells_read : Parsed (List ℕ) → List ℕ
 cells_read (stop n) = []
 cells_read (next c end) = c
 
--- a reading whose cells, if it gives any, stand in a part
-abbrev pub Kept : List ℕ → Parsed (List ℕ) → List ℕ → Pass → Type 0
-Kept l (stop n) part r = r ≡ Pass.Refused n
-Kept l (next c end) part r = (part ≡ c) × (pass_is l r ≡ next tt end)
+-- a good bucket stands at a place, where that is said
+abbrev pub GoodAt : ℕ → List ℕ → ℕ → Bool → Type 0
+GoodAt w l at true = end_of (read_bucket w (drop at l)) ≡ next tt (drop (at + bucket_size (get_or l at 0)) l)
+GoodAt w l at false = Unit {0}

@@ -1,17 +1,17 @@
 // The hold file: a table written as bytes, and read back. Numbers of two bytes have the low byte first.
 #![tactic(auto)]
 
-ghost use Rattle.std.specs.Prelude.{◌≡◌, cond, ◌&&◌, ◌||◌, List, [], ◌∷◌, ℕ, ◌+◌, ◌*◌, ◌-◌, ◌%◌, ◌^◌, ◌<◌, ◌≤◌, eqb, leb, length, drop};
+ghost use Rattle.std.specs.Prelude.{◌≡◌, cond, ◌&&◌, ◌||◌, [], ◌∷◌, ◌+◌, ◌*◌, ◌%◌, ◌^◌, ◌<◌, ◌≤◌, eqb, leb, length, drop, get_or};
 ghost use Rattle.std.proofs.lemmas.List.Edits.{sets};
 ghost use Rattle.lemmas.specs.Stores.{Put, PutBefore};
 ghost use Rattle.file_form.specs.Bytes.{nibble as nibble_of, one as one_of};
 ghost use Rattle.refusals.specs.Outcomes.{outcome, keeping};
-ghost use Rattle.file_form.specs.Parsed.{and_then, answer_of};
+ghost use Rattle.file_form.specs.Parsed.{next, and_then, answer_of};
 ghost use Rattle.file_form.specs.Writer.{cell_bytes, body, write_file};
-ghost use Rattle.file_form.specs.Reader.{take_byte, read_bucket, read_buckets, after_buckets, after_header, into, read_file};
+ghost use Rattle.file_form.specs.Reader.{take_byte, take_pair, read_cell, read_bucket, read_buckets, after_buckets, after_header, into, read_file};
 ghost use Rattle.file_header.specs.Answers.{read_is};
 ghost use Rattle.holdfile.specs.Answers.{write_is, Examined};
-ghost use Rattle.holdfile.specs.Internal.{take_print, Taken, slack, bucket_is, pass_is, end_of, GivesCells, cells_read, Kept, bucket_bytes_at};
+ghost use Rattle.holdfile.specs.Internal.{field_is, slack, pass_is, end_of, pair_from, GivesCells, cells_read, bucket_size, GoodAt, bucket_bytes_at};
 
 use file_header::{HeaderRead, ReadAnswer};
 use file_length::LengthAnswer;
@@ -27,35 +27,19 @@ pub enum WriteAnswer {
 // A number of one or two bytes, and the place after it.
 #[derive(Clone, Copy)]
 enum Field {
-    Value(u32, usize),
+    Value(u16, usize),
     Short,
 }
 
-// The four cells of a bucket.
-#[derive(Clone, Copy)]
-struct Cells {
-    a: u16,
-    b: u16,
-    c: u16,
-    d: u16,
-}
-
-// A bucket and the place after it, or the number of the refusal.
-#[derive(Clone, Copy)]
-enum BucketRead {
-    Bucket(Cells, usize),
-    Refused(u32),
-}
-
-// The place after a bucket or more of them.
+// The place after a cell, a bucket or more of them.
 #[derive(Clone, Copy)]
 enum Pass {
     End(usize),
     Refused(u32),
 }
 
-fn wide(x: u8) -> u32
-    ensures { (result ≡ x) × (result < 256) }
+fn wide(x: u16) -> u32
+    ensures { result ≡ x }
 {
     x as u32
 }
@@ -162,157 +146,156 @@ pub fn write(s: Settings, table: &[u16], out: &mut [u8]) -> WriteAnswer
 
 // ── the reader ──
 
-// Are there n bytes from a place on? Where that is known, ahead, it is not asked: with a literal there the compiler drops the test.
-fn room(len: usize, at: usize, n: usize, ahead: bool) -> bool
-    ensures { result ≡ (ahead || leb (at + n) len) }
-{
-    if ahead {
-        return true;
-    }
-    if len < n { false } else { at <= len - n }
-}
-
 // Two bytes, low byte first.
-fn pair_of(low: u8, high: u8) -> u32
-    ensures { (result ≡ low + 256 * high) × (result < 65536) }
+fn pair_of(low: u8, high: u8) -> u16
+    ensures { result ≡ low + 256 * high }
 {
-    (low as u32) + 256 * (high as u32)
+    (low as u16) + 256 * (high as u16)
 }
 
-// One byte. Where it is known to be there, ahead, that is not asked.
-fn byte_at(bytes: &[u8], at: usize, ahead: bool) -> Field
-    requires { cond ahead (at + 1) 0 ≤ length bytes.now }
-    ensures { Taken bytes.now (take_byte (drop at bytes.now)) 256 (at + 1) result }
+fn widen(x: u8) -> u16
+    ensures { result ≡ x }
 {
-    if room(bytes.len(), at, 1, ahead) {
-        let next = at + 1;
-        return Field::Value(wide(bytes[at]), next);
+    x as u16
+}
+
+// One byte.
+fn byte_at(bytes: &[u8], at: usize) -> Field
+    ensures { field_is bytes.now result ≡ take_byte (drop at bytes.now) }
+{
+    if at < bytes.len() {
+        return Field::Value(widen(bytes[at]), at + 1);
     }
     Field::Short
 }
 
-// A number where its mark is 1, else 0: a product and no branch, since nobody can foretell the marks.
-fn marked(mark: u32, v: u32) -> u32
-    requires { (mark ≤ 1) × (v < 65536) }
-    ensures { (result ≡ cond (eqb mark 1) v 0) × (result < 65536) }
+// A number of two bytes.
+fn pair_at(bytes: &[u8], at: usize) -> Field
+    ensures { field_is bytes.now result ≡ take_pair (drop at bytes.now) }
 {
-    v * mark
-}
-
-fn step(mark: u32) -> usize
-    requires { mark ≤ 1 }
-    ensures { (result ≡ cond (eqb mark 1) 2 0) × (result ≤ 2) }
-{
-    2 * (mark as usize)
-}
-
-// A fingerprint, of two bytes, where its mark is 1. Else 0, which takes no bytes; where two bytes stand there they are read all the same.
-fn print_at(bytes: &[u8], at: usize, mark: u32, ahead: bool) -> Field
-    requires { (mark ≤ 1) × (cond ahead (at + 2) 0 ≤ length bytes.now) }
-    ensures { Taken bytes.now (take_print (eqb mark 1) (drop at bytes.now)) 65536 (at + 2) result }
-{
-    if room(bytes.len(), at, 2, ahead) {
-        let low = bytes[at];
-        let high = bytes[at + 1];
-        let next = at + step(mark);
-        return Field::Value(marked(mark, pair_of(low, high)), next);
+    if at < bytes.len() {
+        let high = at + 1;
+        if high < bytes.len() {
+            return Field::Value(pair_of(bytes[at], bytes[high]), high + 1);
+        }
     }
-    if mark == 1 {
-        return Field::Short;
-    }
-    Field::Value(0, at)
+    Field::Short
 }
 
-// The lowest number that is too wide for a width.
-fn limit_of(width: u32) -> u32
+// A fingerprint that no filled cell of the width has.
+fn unfit(marked: bool, v: u16, width: u32) -> bool
     requires { width ≤ 16 }
-    ensures { result ≡ 2 ^ width }
+    ensures { result ≡ (marked && (eqb v 0 || leb (2 ^ width) v)) }
 {
-    1u32 << width
+    marked & ((v == 0) | (wide(v) >= 1u32 << width))
 }
 
-// Is a fingerprint 0 though it is marked, or too wide? What is not marked is 0, and neither.
-fn misfit(mark: u32, v: u32, limit: u32) -> bool
-    requires { (v ≡ cond (eqb mark 1) v 0) × (mark ≤ 1) × (1 ≤ limit) }
-    ensures { result ≡ (eqb mark 1 && (eqb v 0 || leb limit v)) }
+// The place after a cell. One that is not marked takes no bytes.
+fn cell_end(bytes: &[u8], at: usize, marked: bool, width: u32) -> Pass
+    requires { width ≤ 16 }
+    ensures { pass_is bytes.now result ≡ end_of (read_cell width marked (drop at bytes.now)) }
 {
-    if v < mark {
-        return true;
+    if !marked {
+        return Pass::End(at);
     }
-    v >= limit
+    let Field::Value(v, end) = pair_at(bytes, at) else {
+        return Pass::Refused(11);
+    };
+    if unfit(true, v, width) {
+        return Pass::Refused(14);
+    }
+    Pass::End(end)
 }
 
-// A bucket: the byte that marks its cells, and their fingerprints.
-fn read_bucket(bytes: &[u8], at: usize, width: u32, ahead: bool) -> BucketRead
-    requires { (width ≤ 16) × (cond ahead (at + 9) 0 ≤ length bytes.now) }
-    ensures { bucket_is bytes.now result ≡ read_bucket width (drop at bytes.now) }
+// The place after a bucket, cell by cell.
+fn bucket_by_cells(bytes: &[u8], at: usize, width: u32) -> Pass
+    requires { width ≤ 16 }
+    ensures { pass_is bytes.now result ≡ end_of (read_bucket width (drop at bytes.now)) }
 {
-    let limit = limit_of(width);
-    let Field::Value(m, first) = byte_at(bytes, at, ahead) else {
-        return BucketRead::Refused(11);
+    let Field::Value(m, first) = byte_at(bytes, at) else {
+        return Pass::Refused(11);
     };
     if m >= 16 {
-        return BucketRead::Refused(13);
+        return Pass::Refused(13);
     }
-    let Field::Value(a, second) = print_at(bytes, first, m % 2, ahead) else {
-        return BucketRead::Refused(11);
+    let a = cell_end(bytes, first, m % 2 == 1, width);
+    let Pass::End(second) = a else {
+        return a;
     };
-    if misfit(m % 2, a, limit) {
-        return BucketRead::Refused(14);
-    }
-    let Field::Value(b, third) = print_at(bytes, second, m / 2 % 2, ahead) else {
-        return BucketRead::Refused(11);
+    let b = cell_end(bytes, second, m / 2 % 2 == 1, width);
+    let Pass::End(third) = b else {
+        return b;
     };
-    if misfit(m / 2 % 2, b, limit) {
-        return BucketRead::Refused(14);
-    }
-    let Field::Value(c, fourth) = print_at(bytes, third, m / 4 % 2, ahead) else {
-        return BucketRead::Refused(11);
+    let c = cell_end(bytes, third, m / 4 % 2 == 1, width);
+    let Pass::End(fourth) = c else {
+        return c;
     };
-    if misfit(m / 4 % 2, c, limit) {
-        return BucketRead::Refused(14);
-    }
-    let Field::Value(d, end) = print_at(bytes, fourth, m / 8 % 2, ahead) else {
-        return BucketRead::Refused(11);
-    };
-    if misfit(m / 8 % 2, d, limit) {
-        return BucketRead::Refused(14);
-    }
-    let cells = Cells {
-        a: a as u16,
-        b: b as u16,
-        c: c as u16,
-        d: d as u16,
-    };
-    BucketRead::Bucket(cells, end)
+    cell_end(bytes, fourth, m / 8 % 2 == 1, width)
 }
 
-// The same, for one of the last buckets, before which fewer than nine bytes may be left.
-fn last_bucket(bytes: &[u8], at: usize, width: u32) -> BucketRead
-    requires { width ≤ 16 }
-    ensures { bucket_is bytes.now result ≡ read_bucket width (drop at bytes.now) }
+// The bytes of a bucket by the byte that marks its cells: digit by digit of one word, for 15 down to 0. A sum of the four marks would be
+// right as well, but takes longer, and the place of every later bucket waits for it.
+fn bucket_size(marks: u8) -> usize
+    ensures { result ≡ bucket_size marks }
 {
-    read_bucket(bytes, at, width, false)
+    let digit = ((marks % 16) as u32) * 4;
+    ((10913758273313395505u64 >> digit) % 16) as usize
 }
 
-fn end_of(r: BucketRead) -> Pass
-    ensures { (l : List ℕ) → pass_is l result ≡ end_of (bucket_is l r) }
+// A byte, or 0 past the end.
+fn byte_or(bytes: &[u8], at: usize) -> u8
+    ensures { result ≡ get_or bytes.now at 0 }
 {
-    match r {
-        BucketRead::Bucket(_, end) => Pass::End(end),
-        BucketRead::Refused(n) => Pass::Refused(n),
-    }
+    if at < bytes.len() { bytes[at] } else { 0 }
 }
 
-// The place after a bucket.
+// Two bytes from a place on. Where they are known to be there, ahead, that is not asked.
+fn pair_from(bytes: &[u8], at: usize, ahead: bool) -> u16
+    requires { at + cond ahead 2 0 ≤ length bytes.now }
+    ensures { result ≡ pair_from bytes.now at }
+{
+    if ahead {
+        let low = bytes[at];
+        let high = bytes[at + 1];
+        return pair_of(low, high);
+    }
+    pair_of(byte_or(bytes, at), byte_or(bytes, at + 1))
+}
+
+// Does a good bucket stand at a place? The four tests are made in any case, on bytes that are there, and no branch depends on them.
+fn good_at(bytes: &[u8], at: usize, width: u32) -> bool
+    requires { (width ≤ 16) × (at + 9 ≤ length bytes.now) }
+    ensures { GoodAt width bytes.now at result }
+{
+    let m = bytes[at];
+    let first = at + 1;
+    let second = first + part_size(m % 2 == 1, 2);
+    let third = second + part_size(m / 2 % 2 == 1, 2);
+    let fourth = third + part_size(m / 4 % 2 == 1, 2);
+    let a = pair_from(bytes, first, true);
+    let b = pair_from(bytes, second, true);
+    let c = pair_from(bytes, third, true);
+    let d = pair_from(bytes, fourth, true);
+    let low = unfit(m % 2 == 1, a, width) | unfit(m / 2 % 2 == 1, b, width);
+    let high = unfit(m / 4 % 2 == 1, c, width) | unfit(m / 8 % 2 == 1, d, width);
+    !((m >= 16) | low | high)
+}
+
+// The place after a bucket. One that is good and not near the end of the bytes is passed at once; any other cell by cell, which finds
+// the number.
 fn bucket_end(bytes: &[u8], at: usize, width: u32) -> Pass
     requires { width ≤ 16 }
     ensures { pass_is bytes.now result ≡ end_of (read_bucket width (drop at bytes.now)) }
 {
-    if room(bytes.len(), at, 9, false) {
-        return end_of(read_bucket(bytes, at, width, true));
+    let n = bytes.len();
+    if n >= 9 {
+        if at <= n - 9 {
+            if good_at(bytes, at, width) {
+                return Pass::End(at + bucket_size(bytes[at]));
+            }
+        }
     }
-    end_of(last_bucket(bytes, at, width))
+    bucket_by_cells(bytes, at, width)
 }
 
 // The first pass over the buckets: it checks, and stores nothing.
@@ -323,65 +306,65 @@ fn check_buckets(bytes: &[u8], from: usize, width: u32, count: u32) -> Pass
     let mut at = from;
     let mut left = count;
     while left > 0 {
-        let p = bucket_end(bytes, at, width);
-        let Pass::End(next) = p else {
-            return p;
-        };
-        at = next;
+        match bucket_end(bytes, at, width) {
+            Pass::Refused(n) => {
+                return Pass::Refused(n);
+            }
+            Pass::End(next) => {
+                at = next;
+            }
+        }
         left -= 1;
     }
     Pass::End(at)
 }
 
-// A bucket's cells into the part that is lent for them, so that no other is in reach.
-fn put_cells(part: &mut [u16], f: Cells)
-    requires { length part.old ≡ 4 }
-    ensures { part.new ≡ f.a ∷ f.b ∷ f.c ∷ f.d ∷ [] }
+// A cell's value, or 0 where it is not marked.
+fn pick(stands: bool, v: u16) -> u16
+    ensures { result ≡ cond stands v 0 }
 {
-    part[0] = f.a;
-    part[1] = f.b;
-    part[2] = f.c;
-    part[3] = f.d;
+    if stands { v } else { 0 }
 }
 
-// The place after a bucket, with its cells in the part that is lent for them.
-fn stored(r: BucketRead, part: &mut [u16]) -> Pass
-    requires { length part.old ≡ 4 }
-    ensures { (l : List ℕ) → Kept l (bucket_is l r) part.new result }
+// One bucket into the part that is lent for it, so that no other is in reach; the place after it. The first pass has met no refusal, so
+// nothing is checked again: the width only says what has passed.
+fn store_bucket(bytes: &[u8], at: usize, width: u32, part: &mut [u16], ahead: bool) -> usize
+    requires { (length part.old ≡ 4) × (at + cond ahead 9 0 ≤ length bytes.now) × GivesCells (read_bucket width (drop at bytes.now)) }
+    ensures { read_bucket width (drop at bytes.now) ≡ next part.new (drop result bytes.now) }
 {
-    match r {
-        BucketRead::Bucket(f, end) => {
-            put_cells(part, f);
-            Pass::End(end)
-        }
-        BucketRead::Refused(n) => Pass::Refused(n),
-    }
+    let m = bytes[at];
+    let first = at + 1;
+    let second = first + part_size(m % 2 == 1, 2);
+    let third = second + part_size(m / 2 % 2 == 1, 2);
+    let fourth = third + part_size(m / 4 % 2 == 1, 2);
+    let a = pick(m % 2 == 1, pair_from(bytes, first, ahead));
+    let b = pick(m / 2 % 2 == 1, pair_from(bytes, second, ahead));
+    let c = pick(m / 4 % 2 == 1, pair_from(bytes, third, ahead));
+    let d = pick(m / 8 % 2 == 1, pair_from(bytes, fourth, ahead));
+    part[0] = a;
+    part[1] = b;
+    part[2] = c;
+    part[3] = d;
+    at + bucket_size(m)
 }
 
-fn store_bucket(bytes: &[u8], at: usize, width: u32, part: &mut [u16]) -> Pass
-    requires { (width ≤ 16) × (length part.old ≡ 4) }
-    ensures { Kept bytes.now (read_bucket width (drop at bytes.now)) part.new result }
-{
-    if room(bytes.len(), at, 9, false) {
-        return stored(read_bucket(bytes, at, width, true), part);
-    }
-    stored(last_bucket(bytes, at, width), part)
-}
-
-// The second pass: every bucket into the table. The first has met no refusal, so that this one meets none.
+// The second pass: every bucket into the table. Behind all but the last eight stand eight bytes at least, one for each bucket.
 fn store_buckets(bytes: &[u8], from: usize, width: u32, count: u32, table: &mut [u16])
-    requires { (width ≤ 16) × (length table.old ≡ 4 * count) × GivesCells (read_buckets width count (drop from bytes.now)) }
+    requires { (length table.old ≡ 4 * count) × GivesCells (read_buckets width count (drop from bytes.now)) }
     ensures { table.new ≡ cells_read (read_buckets width count (drop from bytes.now)) }
 {
     let mut at = from;
     let mut i = 0;
     let mut left = count;
+    while left > 8 {
+        let e = i + 4;
+        at = store_bucket(bytes, at, width, &mut table[i..e], true);
+        i = e;
+        left -= 1;
+    }
     while left > 0 {
         let e = i + 4;
-        let Pass::End(next) = store_bucket(bytes, at, width, &mut table[i..e]) else {
-            return;
-        };
-        at = next;
+        at = store_bucket(bytes, at, width, &mut table[i..e], false);
         i = e;
         left -= 1;
     }

@@ -9,7 +9,7 @@ use Rattle.calls.specs.WrittenForms.{any_from}
 use Rattle.lemmas.proofs.Powers.{one_shifted}
 use Rattle.file_form.specs.Writer.{filled}
 use Rattle.file_form.proofs.Sizes.{size-laws}
-use Rattle.file_length.proofs.Passes.{bit-small, count_turn, count-end, any-turn, any-end, is_wide, is-size}
+use Rattle.file_length.proofs.Passes.{bit-small, count_turn, count-end, any-turn, any-end}
 use Rattle.file_length.proofs.body_size.Goals as goal
 
 pub loop-i-init : goal.loop-i-init
@@ -73,8 +73,7 @@ pub returns-then-wide-limit : goal.returns-then-wide-limit
 returns-then-wide-limit c =
     let w = c.args.width in
     let h : 2 ^ w ≤ c.loop-i.top = omega (arith, one_shifted w 32 (omega (arith, c.requires.0)), c.wide.ensures, c.if-wide-limit.true) in
-    let t = c.args.table.now in
-    is_wide w t (sym c.loop-i.invariant.any ∙ ap (λ (b : Bool). b || any_from (2 ^ w) (drop c.loop-i.i t)) (le-leb (2 ^ w) c.loop-i.top h))
+    sym c.loop-i.invariant.any ∙ ap (λ (b : Bool). b || any_from (2 ^ w) (drop c.loop-i.i c.args.table.now)) (le-leb (2 ^ w) c.loop-i.top h)
 
 pub returns : goal.returns
 returns c =
@@ -82,9 +81,10 @@ returns c =
     let w = c.args.width in
     let l = c.loop-i in
     let h : l.top < 2 ^ w = omega (arith, one_shifted w 32 (omega (arith, c.requires.0)), c.wide.ensures, c.if-wide-limit.false) in
-    let done = c.loop-i-test.false in
-    is-size w t (sym l.invariant.any ∙ ap (λ (b : Bool). b || any_from (2 ^ w) (drop l.i t)) (lt-leb (2 ^ w) l.top h) ∙ any-end t l.i (2 ^ w) done)
-    (omega (arith, count-end t l.i done, size-laws.body c.args.buckets t c.requires.1, l.invariant.counted))
+    let done = c.loop-i-test.false in (
+      sym l.invariant.any ∙ ap (λ (b : Bool). b || any_from (2 ^ w) (drop l.i t)) (lt-leb (2 ^ w) l.top h) ∙ any-end t l.i (2 ^ w) done,
+      omega (arith, count-end t l.i done, size-laws.body c.args.buckets t c.requires.1, l.invariant.counted),
+    )
 
 pub overflow_mul-result : goal.overflow_mul-result
 overflow_mul-result c =

@@ -1,17 +1,15 @@
-use Prim.Native.Nat.{ℕ, ◌+◌, ◌^◌}
+use Prim.Native.Nat.{ℕ, ◌+◌}
 use lib.ListN.{length}
-use mathlib.Core.Bool.{false}
-use mathlib.Core.Path.{◌≡◌, refl, sym, ap, ap₂, ◌∙◌}
+use mathlib.Core.Path.{◌≡◌, refl, sym, ap, ap₂, subst, ◌∙◌}
 use native.Mathlib.Omega.{arith}
 use Rattle.refusals.specs.Outcomes.{given}
 use Rattle.index.proofs.Laws.{laws}
 use Rattle.calls.specs.Calls.{Sound}
-use Rattle.calls.specs.WrittenForms.{any_from}
 use Rattle.calls.proofs.Laws.{table-check-laws}
-use Rattle.file_form.specs.Writer.{body, file_of, length_of_file}
+use Rattle.file_form.specs.Writer.{file_of, length_of_file}
 use Rattle.file_form.proofs.Sizes.{file-length-laws}
-use Rattle.file_length.specs.Internal.{size_is}
-use Rattle.file_length.proofs.Passes.{wide-told, size-told}
+use Rattle.file_length.specs.declared.Size.{Size}
+use Rattle.file_length.specs.Internal.{Sized}
 use Rattle.file_length.proofs.file_length.Goals as goal
 
 pub returns-then-n-ne0 : goal.returns-then-n-ne0
@@ -28,12 +26,11 @@ pub returns-in_default : goal.returns-in_default
 returns-in_default c =
     let passes : Sound c.args.s c.args.table.now = (table-check-laws _ _).passed c.table_refusal-n.ensures c.if-n-ne0.false in
     let a = c.args in
-    (file-length-laws a.s a.table.now).wide passes (wide-told a.s.width a.table.now (sym (ap size_is c.in_default.is) ∙ c.body_size.ensures))
+    (file-length-laws a.s a.table.now).wide passes (subst (Sized a.s.width a.table.now) c.in_default.is c.body_size.ensures)
 
 pub overflow_add-result : goal.overflow_add-result
 overflow_add-result c =
-    let sized : (any_from (2 ^ c.args.s.width) c.args.table.now ≡ false) × (c.in-Bytes.cells ≡ length (body c.args.table.now)) = let a = c.args in
-    size-told a.s.width a.table.now (sym (ap size_is c.in-Bytes.is) ∙ c.body_size.ensures) in
+    let sized : Sized c.args.s.width c.args.table.now (Size.Bytes c.in-Bytes.cells) = let a = c.args in subst (Sized a.s.width a.table.now) c.in-Bytes.is c.body_size.ensures in
     let whole : c.header_size-header.result + c.in-Bytes.cells ≡ length (file_of c.args.s c.args.table.now) = let a = c.args in
     ap₂ ◌+◌ c.header_size-header.ensures sized.1 ∙ sym (file-length-laws a.s a.table.now).parts in
     let passes : Sound c.args.s c.args.table.now = (table-check-laws _ _).passed c.table_refusal-n.ensures c.if-n-ne0.false in
@@ -43,8 +40,7 @@ overflow_add-result c =
 
 pub returns : goal.returns
 returns c =
-    let sized : (any_from (2 ^ c.args.s.width) c.args.table.now ≡ false) × (c.in-Bytes.cells ≡ length (body c.args.table.now)) = let a = c.args in
-    size-told a.s.width a.table.now (sym (ap size_is c.in-Bytes.is) ∙ c.body_size.ensures) in
+    let sized : Sized c.args.s.width c.args.table.now (Size.Bytes c.in-Bytes.cells) = let a = c.args in subst (Sized a.s.width a.table.now) c.in-Bytes.is c.body_size.ensures in
     let whole : c.header_size-header.result + c.in-Bytes.cells ≡ length (file_of c.args.s c.args.table.now) = let a = c.args in
     ap₂ ◌+◌ c.header_size-header.ensures sized.1 ∙ sym (file-length-laws a.s a.table.now).parts in
     let passes : Sound c.args.s c.args.table.now = (table-check-laws _ _).passed c.table_refusal-n.ensures c.if-n-ne0.false in

@@ -7,22 +7,21 @@ use Rattle.holdfile.specs.Internal.{pass_is, end_of}
 use Rattle.file_form.specs.Reader.{read_buckets}
 use Rattle.holdfile.proofs.check_buckets.Goals as goal
 
-pub bucket_end-p-requires : goal.bucket_end-p-requires
-bucket_end-p-requires c = c.requires
+pub bucket_end-requires : goal.bucket_end-requires
+bucket_end-requires c = c.requires
 
-pub returns-in_default : goal.returns-in_default
-returns-in_default c =
+pub returns-in-Refused : goal.returns-in-Refused
+returns-in-Refused c =
     let l = c.loop-left in
     let a = c.args in
-    let e = ap (pass_is a.bytes.now) c.in_default.is in
-    e ∙ sym (ap end_of (check-stops a.width l.left (drop l.at a.bytes.now) c.loop-left-test.true _ (sym e ∙ c.bucket_end-p.ensures))) ∙ l.invariant
+    sym (ap end_of (check-stops a.width l.left (drop l.at a.bytes.now) c.loop-left-test.true c.in-Refused.n (ap (pass_is a.bytes.now) (sym c.in-Refused.is) ∙ c.bucket_end.ensures))) ∙ l.invariant
 
 pub loop-left-preserved : goal.loop-left-preserved
 loop-left-preserved c =
-    let l = c.loop-left in
     let a = c.args in
-    let e = ap (pass_is a.bytes.now) c.in-End.is in
-    check-turn a.width l.left (drop l.at a.bytes.now) c.loop-left-test.true (drop c.in-End.next a.bytes.now) (sym e ∙ c.bucket_end-p.ensures) ∙ l.invariant
+    let l = c.loop-left in
+    check-turn a.width l.left (drop l.at a.bytes.now) c.loop-left-test.true (drop c.in-End.next a.bytes.now)
+    (ap (pass_is a.bytes.now) (sym c.in-End.is) ∙ c.bucket_end.ensures) ∙ l.invariant
 
 pub returns : goal.returns
 returns c =

@@ -26,7 +26,7 @@ pub store_buckets-requires : goal.store_buckets-requires
 store_buckets-requires c =
     let passes : Sound c.args.s c.args.table.now = (table-check-laws _ _).passed c.table_refusal-n.ensures c.if-n-ne0.false in
     let ended : next tt (drop c.in-End.field-0 c.args.bytes.now) ≡ end_of (and_then (read_buckets c.args.s.width c.args.s.buckets (drop c.args.at c.args.bytes.now)) (after_buckets c.args.s)) = ap (pass_is c.args.bytes.now) (sym c.in-End.is) ∙ c.body_end.ensures in
-    ((laws c.args.s passes.settings).width_high, passes.size, (body-read c.args.s (drop c.args.at c.args.bytes.now) ended).gives)
+    (passes.size, (body-read c.args.s (drop c.args.at c.args.bytes.now) ended).gives)
 
 pub returns-in-Refused : goal.returns-in-Refused
 returns-in-Refused c =
