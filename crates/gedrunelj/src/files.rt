@@ -42,7 +42,7 @@ pub(crate) enum Stored {
 
 // ── reading ──
 
-// Opens a file to be read, whose name need be no text, or answers the system's error.
+// Opens a file to be read, or answers the system's error; a name that is no text is the name of none.
 pub(crate) fn open(rt: HostRuntime, name: &[u8]) -> Result<File, i32> {
     match path_text(name) {
         Ok(path) => opened(File::open(&rt, path)),

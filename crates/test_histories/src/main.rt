@@ -19,7 +19,7 @@ ghost use Rattle.std.specs.Prelude.{◌≡◌, ◌+◌, ◌≤◌, min, length, 
 
 use digits::{Typed, hex_value};
 use std::io;
-use std::io::{BufWriter, Read, Write};
+use std::io::{Read, Write};
 
 // A number, and where the field after it starts.
 #[derive(Clone, Copy)]
@@ -727,7 +727,7 @@ fn main(rt: HostRuntime) -> io::Result<()> {
     let mut requests = request_space();
     let mut cells = cell_space();
     let mut words = word_space();
-    let mut out = BufWriter::new(rt.alloc(), rt.stdout())?;
+    let mut out = rt.stdout();
     answer_all(
         &mut rt.stdin(),
         &mut out,

@@ -12,7 +12,7 @@ ghost use Rattle.std.specs.Prelude.{◌≡◌, ◌≤◌, length, IfOk};
 
 use digits::{Typed, hex_value};
 use std::io;
-use std::io::{BufWriter, Read, Write};
+use std::io::{Read, Write};
 
 // A number, and where the field after it starts.
 #[derive(Clone, Copy)]
@@ -268,7 +268,7 @@ fn space() -> [u8; 262144]
 fn main(rt: HostRuntime) -> io::Result<()> {
     let mut requests = space();
     let n = fill(&mut rt.stdin(), &mut requests)?;
-    let mut out = BufWriter::new(rt.alloc(), rt.stdout())?;
+    let mut out = rt.stdout();
     answer_all(&mut out, &requests[..n])?;
     out.flush()
 }
