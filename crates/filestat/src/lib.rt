@@ -1,9 +1,11 @@
 // What stands at a path: its kind, its rights, its owner and its group.
 #![tactic(auto)]
 
-ghost use Rattle.std.specs.Prelude.{◌≡◌, ◌≢◌, false, pos, IfOk, IfErr};
+ghost use Rattle.std.specs.Prelude.{◌≡◌, ◌≢◌, true, false, pos, length, IfOk, IfErr};
 ghost use Rattle.std.specs.Fs.{metadata_mode};
-ghost use Rattle.filestat.specs.Tells.{NoZero, IsPath, Tells, Silent};
+ghost use Rattle.std.specs.IoError.{raw_os_error};
+ghost use Rattle.std.specs.Str.{IsUtf8};
+ghost use Rattle.filestat.specs.Tells.{NoZero, IsPath, path_error, number_told, Tells, Silent};
 
 use std::fs::{Metadata, symlink_metadata};
 use std::io;
@@ -59,6 +61,8 @@ pub fn status(files: &impl Files, path: &[u8]) -> FileStatus
 pub fn path_text(path: &[u8]) -> Result<&str, i32>
     ensures whole { IfOk result (λ text. text.now ≡ path.now) }
     ensures is_path { IfOk result (λ text. IsPath text.now) }
+    ensures none_lost { IfErr result (λ error. IsPath path.now → IsUtf8 path.now → ⊥) }
+    ensures number { IfErr result (λ error. error ≡ path_error (length path.now)) }
 {
     if path.len() >= PATH_MAX {
         return Err(ENAMETOOLONG);
@@ -122,7 +126,8 @@ fn missing(error: i32) -> FileStatus
 
 // The system's number of an error. One that it gave no number counts as a failure of the disk.
 pub fn error_number(e: &io::Error) -> i32
-    ensures { result ≢ pos 0 }
+    ensures number { result ≡ number_told (raw_os_error e.now) }
+    ensures some { result ≢ pos 0 }
 {
     match e.raw_os_error() {
         Some(number) if number != 0 => number,
@@ -131,7 +136,8 @@ pub fn error_number(e: &io::Error) -> i32
 }
 
 fn has_zero(path: &[u8]) -> bool
-    ensures { result ≡ false → NoZero path.now }
+    ensures none { result ≡ false → NoZero path.now }
+    ensures found { result ≡ true → NoZero path.now → ⊥ }
 {
     let mut i = 0;
     while i < path.len() {
