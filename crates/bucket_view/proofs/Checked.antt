@@ -1,65 +1,68 @@
--- What a view shows, by the number of its check.
+-- What a view shows, by its check.
 -- Assumes nothing.
 use mathlib.Core.Path.{◌≡◌, refl, sym, ap, ◌∙◌}
-use mathlib.Core.Logic.{◌≢◌}
-use mathlib.Core.Option.{Option}
+use mathlib.Core.Option.{Option, none, some}
 use mathlib.Core.List.{List, []}
-use Prim.Native.Nat.{ℕ, zero, suc, ◌+◌, ◌*◌, ◌-◌, ◌≤◌, ◌<◌}
+use Prim.Native.Nat.{ℕ, ◌+◌, ◌*◌, ◌-◌, ◌≤◌, ◌<◌}
 use native.Mathlib.Decide.{dec_lt}
 use native.Mathlib.Omega.{arith}
 use lib.ListN.{length, take, drop}
-use Rattle.refusals.specs.Checks.{first_met, number_of}
+use Rattle.refusals.specs.Checks.{first_met}
 use Rattle.refusals.specs.Outcomes.{given, unless}
-use Rattle.refusals.proofs.Cursor.{start, all-met, all-passed, number-some, number-met}
+use Rattle.refusals.proofs.Cursor.{start, all-met, all-passed, parts-passed, number_passed}
 use Rattle.index.specs.Candidates.{bucket_checks}
 use Rattle.index.specs.declared.Settings.{Settings}
 use Rattle.index.proofs.Checks.{check-laws}
 use Rattle.calls.specs.Cells.{bucket_of}
-use Rattle.calls.specs.Calls.{table_checks, Sound, view_checks, viewed, view_number, part_of}
+use Rattle.calls.specs.Calls.{table_checks, view_checks, viewed, view_number, part_of}
 use Rattle.calls.proofs.Laws.{table-check-laws}
+use Rattle.calls.proofs.Positive.{positive-calls}
 
 module _ (s : Settings) (c : List ℕ) (b : ℕ) where
-  pub view-stopped : {n : ℕ} → n ≡ number_of (first_met (table_checks s c)) → n ≢ 0 → n ≡ view_number s c b
-  unfolding view_number view_checks
-  view-stopped e h = sym (ap number_of (all-met (table_checks s c) (bucket_checks s b) (start _) (number-met (table_checks s c) e h)))
-
-  view-rest : Sound s c → first_met (view_checks s c b) ≡ first_met (bucket_checks s b)
+  pub view-stopped : {n : ℕ} → some n ≡ first_met (table_checks s c) → some n ≡ first_met (view_checks s c b)
   unfolding view_checks
-  view-rest S = (all-passed (table_checks s c) (bucket_checks s b) (start _) ((table-check-laws s c).passes S)).decides
+  view-stopped e = sym (all-met (table_checks s c) (bucket_checks s b) (start _) (sym e))
 
-  pub view_out : Sound s c → s.buckets ≤ b → 8 ≡ view_number s c b
+  module _ (passed : none ≡ first_met (table_checks s c)) where
+    view-rest : first_met (view_checks s c b) ≡ first_met (bucket_checks s b)
+    unfolding view_checks
+    view-rest = (all-passed (table_checks s c) (bucket_checks s b) (start _) (sym passed)).decides
+
+    pub view_out : s.buckets ≤ b → some 8 ≡ first_met (view_checks s c b)
+    view_out h = sym (view-rest ∙ (check-laws s).bucket_refused b h)
+
+    pub view_in : b < s.buckets → none ≡ first_met (view_checks s c b)
+    view_in h = sym (view-rest ∙ (check-laws s).bucket_passes b h)
+
+  -- the view, by its check
+  pub view-none : {n : ℕ} → some n ≡ first_met (view_checks s c b) → [] ≡ viewed s c b
+  unfolding viewed
+  view-none e = ap (λ (o : Option ℕ). part_of (unless o (given (bucket_of c b)))) e
+
+  -- no number is 0
+  pub view-stays : {n : ℕ} → some n ≡ first_met (view_checks s c b) → view_number s c b ≡ 0 → ⊥
   unfolding view_number
-  view_out S h = sym (ap number_of (view-rest S ∙ (check-laws s).bucket_refused b h))
+  view-stays e z =
+      let f = e ∙ number_passed (view_checks s c b) (sym z) ((positive-calls s c).view_numbered b) refl in
+      let y : ◌≡◌ {A = ℕ} 0 1 = cc in omega arith
 
-  pub view_in : Sound s c → b < s.buckets → 0 ≡ view_number s c b
-  unfolding view_number
-  view_in S h = sym (ap number_of (view-rest S ∙ (check-laws s).bucket_passes b h))
+  module _ (e : none ≡ first_met (view_checks s c b)) where
+    both-pass : (first_met (table_checks s c) ≡ none) × (first_met (bucket_checks s b) ≡ none)
+    unfolding view_checks
+    both-pass = parts-passed (table_checks s c) (bucket_checks s b) (sym e)
 
-  -- the view, from its check's number
-  module _ (n : ℕ) (e : n ≡ view_number s c b) where
-    pub view-none : n ≢ 0 → [] ≡ viewed s c b
-    unfolding viewed view_number
-    view-none h = sym (ap (λ (o : Option ℕ). part_of (unless o (given (bucket_of c b)))) (number-some (first_met (view_checks s c b)) (λ z. h (e ∙ z))))
+    below : b < s.buckets
+    below = elim (dec_lt b s.buckets) [
+      | yes g ↦ g
+      | no g ↦ absurd (let f = sym both-pass.1 ∙ (check-laws s).bucket_refused b (omega arith) in let y : ◌≡◌ {A = ℕ} 0 1 = cc in omega arith)
+    ]
 
-    module _ (h : n ≡ 0) where
-      seen : Sound s c
-      seen = go (number_of (first_met (table_checks s c))) refl
-        where
-          go : (k : ℕ) → k ≡ number_of (first_met (table_checks s c)) → Sound s c
-          go zero f = (table-check-laws s c).passed f refl
-          go (suc k) f = absurd (omega (arith, view-stopped f (λ z. omega arith), e, h))
+    pub view-inside : 4 * b + 4 ≤ length c
+    view-inside = omega (arith, ((table-check-laws s c).sound both-pass.0).size, below)
 
-      below : b < s.buckets
-      below = elim (dec_lt b s.buckets) [ yes g ↦ g | no g ↦ absurd (omega (arith, e, h, view_out seen (omega arith))) ]
-
-      pub view-inside : 4 * b + 4 ≤ length c
-      view-inside = omega (arith, seen.size, below)
-
-      pub view-some : take (4 * b + 4 - 4 * b) (drop (4 * b) c) ≡ viewed s c b
-      unfolding viewed bucket_of
-      view-some =
-          ap (λ (k : ℕ). take k (drop (4 * b) c)) (four (4 * b))
-          ∙ sym (ap (λ (o : Option ℕ). part_of (unless o (given (bucket_of c b)))) (view-rest seen ∙ (check-laws s).bucket_passes b below))
-        where
-          four : (a : ℕ) → a + 4 - a ≡ 4
-          four a = omega arith
+    pub view-some : take (4 * b + 4 - 4 * b) (drop (4 * b) c) ≡ viewed s c b
+    unfolding viewed bucket_of
+    view-some = ap (λ (k : ℕ). take k (drop (4 * b) c)) (four (4 * b)) ∙ ap (λ (o : Option ℕ). part_of (unless o (given (bucket_of c b)))) e
+      where
+        four : (a : ℕ) → a + 4 - a ≡ 4
+        four a = omega arith

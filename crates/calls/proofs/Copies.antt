@@ -92,7 +92,8 @@ module _ (s : Settings) (L : Laws s) (c : List ℕ) (p b : ℕ) (l : b < s.bucke
         )
         go (inl e) (inl o) = other (λ q. omega (arith, own q)) ∙ sym (once-out (occ (i / 4) set) (hit (cell c i) p) o)
         go (inr z) (inl o) = other (λ q. omega (arith, own q)) ∙ sym (once-out (occ (i / 4) set) (hit (cell c i) p) o)
-        go (inr z) (inr g) = other (λ q. hit-ne (cell c i) p z (sym (sym (L.class_print p b) ∙ ap (λ (x : Class). x.print) q ∙ L.class_print (cell c i) (i / 4)))) ∙ sym (once-in (occ (i / 4) set) (hit (cell c i) p) g ∙ z)
+        go (inr z) (inr g) = other (λ q. hit-ne (cell c i) p z (sym (sym (L.class_print p b) ∙ ap (λ (x : Class). x.print) q ∙ L.class_print (cell c i) (i / 4))))
+            ∙ sym (once-in (occ (i / 4) set) (hit (cell c i) p) g ∙ z)
 
     pub copies-entries : total (one_at k) (entries s c) ≡ copies_in s c p b
     copies-entries = total-entries s (one_at k) c ∙ sum-eq (4 * s.buckets) (λ i. weight_at s (one_at k) i (cell c i)) term weighs ∙ copies-cells

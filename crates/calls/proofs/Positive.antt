@@ -16,7 +16,8 @@ use Rattle.index.specs.declared.Settings.{Settings}
 use Rattle.index.proofs.Positive.{positive-index}
 use Rattle.calls.specs.Cells.{lowest_empty, in_first}
 use Rattle.calls.specs.Search.{Ending, found, exhausted, search_for}
-use Rattle.calls.specs.Calls.{table_checks, scratch_checks, clear_table, tagged_checks, lookup_in, lookup, found_in, emptied, release_in, release, hold_checks, placed, hold_in, hold, view_checks}
+use Rattle.calls.specs.Calls.{table_checks, scratch_checks, clear_table, tagged_checks, lookup_in, lookup, found_in, emptied, release_in, release, hold_checks, placed}
+use Rattle.calls.specs.Calls.{hold_in, hold, view_checks}
 use Rattle.calls.specs.WrittenForms.{write_checks, written, count_checks, length_of}
 use Rattle.calls.specs.Positive.{PositiveCalls}
 use Rattle.calls.proofs.Refusals.{table-check-laws}

@@ -24,7 +24,8 @@ use Rattle.calls.proofs.Cells.{empty-finds, cells-of, in_cells}
 use Rattle.calls.proofs.Classes.{other-candidate}
 use Rattle.calls.specs.Laws.{buckets_of, Distinct}
 use Rattle.calls.proofs.Levels.{Level, start-level, skip-level, queue-level, turn_level, Distances, found-distances}
-use Rattle.calls.proofs.Nodes.{buckets_on, taken, All, Full, root_nodes, all_map, all_append, all-at, occ-queue, marked-true, marked-false, taken-append, taken-suc, taken-le, at-queued, occ-leads, all-leads, distinct_none, distinct_more, distinct-short}
+use Rattle.calls.proofs.Nodes.{buckets_on, taken, All, Full, root_nodes, all_map, all_append, all-at, occ-queue, marked-true, marked-false, taken-append, taken-suc}
+use Rattle.calls.proofs.Nodes.{taken-le, at-queued, occ-leads, all-leads, distinct_none, distinct_more, distinct-short}
 
 -- ── the invariant ──
 module _ (s : Settings) (c rs : List ℕ) where

@@ -25,7 +25,8 @@ use Rattle.index.proofs.DegenerateMasks.{degenerate-laws}
 use Rattle.index.proofs.Laws.{laws}
 use Rattle.calls.specs.Cells.{cell, cells_of, lowest_at, lowest_empty, or_else, in_first}
 use Rattle.calls.specs.Search.{Node, node, marked, Ending, exhausted, arrive, walk, through, leads_to, search_from, roots_from, search_for}
-use Rattle.calls.specs.Calls.{Act, Result, size_checks, table_checks, scratch_checks, tagged_checks, hold_checks, found_in, copies_in, lookup_in, lookup, emptied, release_in, release, placed, hold_in, hold}
+use Rattle.calls.specs.Calls.{Act, Result, size_checks, table_checks, scratch_checks, tagged_checks, hold_checks, found_in, copies_in, lookup_in, lookup, emptied}
+use Rattle.calls.specs.Calls.{release_in, release, placed, hold_in, hold}
 use Rattle.calls.specs.Laws.{buckets_of}
 use Rattle.calls.specs.Model.{Call, hold_of, release_of, lookup_of}
 use Rattle.calls.specs.Demand.{table_call, Run, run}

@@ -15,7 +15,7 @@ use lib.Seq.{take_at}
 use Rattle.refusals.specs.Checks.{check, first_met, number_of}
 use Rattle.refusals.specs.Outcomes.{Answer, refused, given, unless, Done, done, outcome, keeping}
 use Rattle.refusals.specs.Laws.{Reached}
-use Rattle.refusals.proofs.Cursor.{start, met, passed, none_left, all-met, all-passed, parts-passed, not-met, number-met, is-refused, goes_on}
+use Rattle.refusals.proofs.Cursor.{start, met, passed, none_left, all-met, all-passed, parts-passed, not-met, is-refused, goes_on}
 use Rattle.refusals.proofs.Cursor.{by-check, by-none, call-refused, call-goes-on, number-refuses}
 use Rattle.index.specs.declared.Settings.{Settings}
 use Rattle.calls.specs.Calls.{table_checks, Sound}
@@ -78,9 +78,9 @@ module _ (s : Settings) (c bytes : List ℕ) where
   abbrev sized : Answer ℕ
   sized = given (length bytes)
 
-  length-stopped : {n : ℕ} → n ≡ number_of (first_met (table_checks s c)) → n ≢ 0 → refused n ≡ length_of s c bytes
+  length-stopped : {n : ℕ} → some n ≡ first_met (table_checks s c) → refused n ≡ length_of s c bytes
   unfolding length_of count_checks
-  length-stopped e h = is-refused sized (all-met (table_checks s c) _ (start _) (number-met (table_checks s c) e h))
+  length-stopped e = is-refused sized (all-met (table_checks s c) _ (start _) (sym e))
 
   -- past the table's checks the cells decide
   at_cells : Sound s c → Reached (count_checks s c) (check 17 (any_from (2 ^ s.width) c) ∷ [])
@@ -126,7 +126,7 @@ module _ (s : Settings) (c bytes : List ℕ) where
 
   pub length-laws : LengthLaws s c bytes
   length-laws = record {
-    stopped = λ e h. length-stopped e h;
+    stopped = λ e. length-stopped e;
     wide = length-wide;
     gives = length-gives;
     tells = length-tells;

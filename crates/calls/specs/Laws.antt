@@ -87,7 +87,7 @@ pub record WriterLaws (s : Settings) (c bytes out : List ℕ) : Type 0 where
 -- the length of a form, foretold: its checks in the order in which the code makes them, what it tells, and what the writer that is called
 -- next does with any output
 pub record LengthLaws (s : Settings) (c bytes : List ℕ) : Type 0 where
-  pub stopped : {n : ℕ} → n ≡ number_of (first_met (table_checks s c)) → n ≢ 0 → refused n ≡ length_of s c bytes
+  pub stopped : {n : ℕ} → some n ≡ first_met (table_checks s c) → refused n ≡ length_of s c bytes
   pub wide : Sound s c → any_from (2 ^ s.width) c ≡ true → refused 17 ≡ length_of s c bytes
   pub gives : Sound s c → any_from (2 ^ s.width) c ≡ false → given (length bytes) ≡ length_of s c bytes
   pub tells : (n : ℕ) → length_of s c bytes ≡ given n → Sound s c × (n ≡ length bytes)

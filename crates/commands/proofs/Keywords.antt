@@ -1,29 +1,24 @@
--- The keyword of a name, found word by word in a text of names.
+-- A table of names in the code, and the list of keywords.
 -- Assumes nothing.
-use mathlib.Core.Path.{◌≡◌}
-use mathlib.Core.Bool.{true, false, cond}
-use mathlib.Core.List.{List, [], ◌∷◌}
-use Prim.Native.Nat.{ℕ, ◌+◌, ◌≤◌, ◌<◌}
-use native.Mathlib.Numerals.{add-one}
-use lib.ListN.{length, get_or, drop, drop_of_length-le}
-use lib.Seq.{drop-cons}
-use Rattle.commands.specs.Words.{word, after_word, same}
+use mathlib.Core.Path.{◌≡◌, refl}
+use mathlib.Core.Bool.{Bool, true, false, cond}
+use mathlib.Core.List.{List, [], ◌∷◌, map}
+use Prim.Native.Nat.{ℕ}
+use denote.Ref.{Bor}
+use Rattle.std.specs.Prelude.{Some, find, option_map, bytes_eq}
+use Rattle.commands.specs.Commands.{Keyword, asks_of}
+use Rattle.commands.specs.Internal.{beside}
 use Rattle.commands.specs.declared.Asks.{Asks}
 
--- what a name asks for, with the names in a text and what they ask for in a list
-unfoldable pub asks_from : List ℕ → List ℕ → List Asks → Asks
-asks_from n l [] = Asks.Unknown
-asks_from n l (a ∷ s) = cond (same n (word l)) a (asks_from n (after_word l) s)
+abbrev pub keyword_in : Bor (List ℕ) × Asks → Keyword
+keyword_in row = record { name = row.0.now; asks = row.1 }
 
-module _ (n l : List ℕ) (s : List Asks) (k : ℕ) where
-  pub asks-turn : k < length s → same n (word l) ≡ false → asks_from n (after_word l) (drop (k + 1) s) ≡ asks_from n l (drop k s)
-  unfolding asks_from
-  asks-turn h e = rw (add-one, drop-cons s k Asks.Unknown, e)
-
-  pub asks-stop : k < length s → same n (word l) ≡ true → get_or s k Asks.Unknown ≡ asks_from n l (drop k s)
-  unfolding asks_from
-  asks-stop h e = rw (drop-cons s k Asks.Unknown, e)
-
-  pub asks-end : length s ≤ k → Asks.Unknown ≡ asks_from n l (drop k s)
-  unfolding asks_from
-  asks-end h = rw drop_of_length-le
+pub beside-asks : (n : List ℕ) (t : List (Bor (List ℕ) × Asks)) → beside n t ≡ asks_of n (map keyword_in t)
+unfolding beside asks_of
+beside-asks n [] = refl
+beside-asks n (r ∷ t) = go (bytes_eq n r.0.now) (beside-asks n t)
+  where
+    go : (b : Bool) → beside n t ≡ asks_of n (map keyword_in t)
+        → option_map (λ row. row.1) (cond b (Some r) (find (λ row. bytes_eq n row.0.now) t)) ≡ cond b (Some r.1) (asks_of n (map keyword_in t))
+    go true e = refl
+    go false e = e

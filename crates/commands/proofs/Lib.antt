@@ -1,5 +1,3 @@
 -- The commands' proofs, by what they speak of.
 pub mod Scanning
 pub mod Keywords
-pub mod Choices
-pub mod Shares

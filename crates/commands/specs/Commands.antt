@@ -1,13 +1,13 @@
 -- What a line asks for.
 -- Assumes nothing.
-use Rattle.std.specs.Prelude.{cond, List, [], ◌∷◌, ℕ, ◌-◌, ◌^◌, eqb, get_or}
-use Rattle.std.proofs.Math.Option.{Option, none, some}
+use Rattle.std.specs.Prelude.{cond, List, [], ◌∷◌, ℕ, ◌-◌, ◌^◌, eqb, get_or, bytes_eq, Option, None, Some, Result, Ok, Err}
 use Prim.Native.String.{String}
 use Rattle.digits.specs.Numbers.{decimal_of, number_of}
-use Rattle.commands.specs.Words.{letters, if_empty, trim, word, after_word, same}
+use Rattle.commands.specs.Words.{letters, if_empty, trim, word, after_word}
 use Rattle.commands.specs.declared.Asks.{Asks}
 use Rattle.commands.specs.declared.Command.{Command}
 use Rattle.commands.specs.declared.Expected.{Expected}
+use Rattle.commands.specs.declared.Mistake.{Mistake}
 
 -- ── the numbers that commands take, each a word ──
 -- below 2 to the 32, in decimal digits
@@ -16,40 +16,40 @@ first_number l = decimal_of (2 ^ 32 - 1) (word l)
 
 -- a salt: below 2 to the 64, in decimal digits or in hexadecimal ones after 0x; 0 where it is left out
 abbrev pub first_salt : List ℕ → Option ℕ
-first_salt l = if_empty l (some 0) (number_of (2 ^ 64 - 1) (word l))
+first_salt l = if_empty l (Some 0) (number_of (2 ^ 64 - 1) (word l))
 
 -- ── what stands after the name: where it is not as it should be, the answer says what was expected ──
 -- a tag or the name of a file: all that follows, blanks within it too
-abbrev pub with_text : Command → Expected → List ℕ → Command
-with_text c e l = if_empty l (Command.Missing e) c
+abbrev pub with_text : Result Command Mistake → Expected → List ℕ → Result Command Mistake
+with_text c e l = if_empty l (Err (Mistake.Missing e)) c
 
 -- nothing more
-abbrev pub alone : Command → Expected → List ℕ → Command
-alone c e l = if_empty l c (Command.Extra e)
+abbrev pub alone : Result Command Mistake → Expected → List ℕ → Result Command Mistake
+alone c e l = if_empty l c (Err (Mistake.Extra e))
 
 -- one word more, the last
-abbrev pub last_word : Command → Expected → List ℕ → Command
+abbrev pub last_word : Result Command Mistake → Expected → List ℕ → Result Command Mistake
 last_word c e rest = with_text (alone c e (after_word rest)) e rest
 
 -- one number
-abbrev pub view_command : Option ℕ → Command
-view_command none = Command.NotNumber Expected.Bucket
-view_command (some b) = Command.View b
+abbrev pub view_command : Option ℕ → Result Command Mistake
+view_command None = Err (Mistake.NotNumber Expected.Bucket)
+view_command (Some b) = Ok (Command.View b)
 
-unfoldable pub view_line : List ℕ → Command
+unfoldable pub view_line : List ℕ → Result Command Mistake
 view_line rest = last_word (view_command (first_number rest)) Expected.Bucket rest
 
 -- four numbers and a salt; the first that is none is told
-abbrev pub settings_command : Option ℕ → Option ℕ → Option ℕ → Option ℕ → Option ℕ → Command
-settings_command (some r) (some w) (some m) (some k) (some s) = Command.Settings r w m k s
-settings_command (some r) (some w) (some m) (some k) none = Command.NotNumber Expected.Salt
-settings_command (some r) (some w) (some m) none s = Command.NotNumber Expected.Mask
-settings_command (some r) (some w) none k s = Command.NotNumber Expected.Buckets
-settings_command (some r) none m k s = Command.NotNumber Expected.Width
-settings_command none w m k s = Command.NotNumber Expected.Rule
+abbrev pub settings_command : Option ℕ → Option ℕ → Option ℕ → Option ℕ → Option ℕ → Result Command Mistake
+settings_command (Some r) (Some w) (Some m) (Some k) (Some s) = Ok (Command.Settings r w m k s)
+settings_command (Some r) (Some w) (Some m) (Some k) None = Err (Mistake.NotNumber Expected.Salt)
+settings_command (Some r) (Some w) (Some m) None s = Err (Mistake.NotNumber Expected.Mask)
+settings_command (Some r) (Some w) None k s = Err (Mistake.NotNumber Expected.Buckets)
+settings_command (Some r) None m k s = Err (Mistake.NotNumber Expected.Width)
+settings_command None w m k s = Err (Mistake.NotNumber Expected.Rule)
 
 -- the fourth word has to be there, and nothing may follow the fifth
-unfoldable pub settings_numbers : List ℕ → Command
+unfoldable pub settings_numbers : List ℕ → Result Command Mistake
 settings_numbers rest =
     let second = after_word rest in
     let third = after_word second in
@@ -59,8 +59,8 @@ settings_numbers rest =
     with_text (alone command Expected.Settings (after_word fifth)) Expected.Settings fourth
 
 -- with nothing after it, the present settings are asked for
-unfoldable pub settings_line : List ℕ → Command
-settings_line rest = if_empty rest Command.Present (settings_numbers rest)
+unfoldable pub settings_line : List ℕ → Result Command Mistake
+settings_line rest = if_empty rest (Ok Command.Present) (settings_numbers rest)
 
 -- ── the keywords ──
 -- a name, and what it asks for
@@ -91,28 +91,28 @@ keywords =
     ∷ []
 
 -- what a name asks for
-unfoldable pub asks_of : List ℕ → List Keyword → Asks
-asks_of n [] = Asks.Unknown
-asks_of n (k ∷ ks) = cond (same n k.name) k.asks (asks_of n ks)
+unfoldable pub asks_of : List ℕ → List Keyword → Option Asks
+asks_of n [] = None
+asks_of n (k ∷ ks) = cond (bytes_eq n k.name) (Some k.asks) (asks_of n ks)
 
 -- and with what stands after it
-abbrev pub asked : Asks → List ℕ → Command
-asked (Asks.Text c e) rest = with_text c e rest
-asked (Asks.Files c) rest = with_text c Expected.Files (after_word rest)
-asked (Asks.Nothing c) rest = alone c Expected.Nothing rest
-asked Asks.View rest = view_line rest
-asked Asks.Settings rest = settings_line rest
-asked Asks.Unknown rest = Command.Unknown
+abbrev pub asked : Option Asks → List ℕ → Result Command Mistake
+asked (Some (Asks.Text c e)) rest = with_text (Ok c) e rest
+asked (Some (Asks.Files c)) rest = with_text (Ok c) Expected.Files (after_word rest)
+asked (Some (Asks.Nothing c)) rest = alone (Ok c) Expected.Nothing rest
+asked (Some Asks.View) rest = view_line rest
+asked (Some Asks.Settings) rest = settings_line rest
+asked None rest = Err Mistake.Unknown
 
 -- ── the line ──
-unfoldable pub named : List ℕ → List ℕ → Command
+unfoldable pub named : List ℕ → List ℕ → Result Command Mistake
 named name rest = asked (asks_of name keywords) rest
 
 -- an empty line and one that starts with # ask for nothing
-unfoldable pub command_in : List ℕ → Command
-command_in l = if_empty l Command.Nothing (cond (eqb (get_or l 0 0) 35) Command.Nothing (named (word l) (after_word l)))
+unfoldable pub command_in : List ℕ → Result Command Mistake
+command_in l = if_empty l (Ok Command.Nothing) (cond (eqb (get_or l 0 0) 35) (Ok Command.Nothing) (named (word l) (after_word l)))
 
-unfoldable pub command_of : List ℕ → Command
+unfoldable pub command_of : List ℕ → Result Command Mistake
 command_of line = command_in (trim line)
 
 -- the tag or the file's name that a line has

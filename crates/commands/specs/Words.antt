@@ -1,6 +1,7 @@
 -- The words of a line: what stands between blanks.
 -- Assumes nothing.
-use Rattle.std.specs.Prelude.{Bool, true, false, cond, ◌||◌, ◌&&◌, List, [], ◌∷◌, ℕ, suc, eqb, take, drop}
+use Rattle.std.specs.Prelude.{Bool, true, false, cond, ◌||◌, List, [], ◌∷◌, ℕ, eqb, length, take, drop}
+use Rattle.std.specs.List.{prefix_len}
 use Rattle.std.specs.Bool.{beq}
 use Prim.Native.Char.{code}
 use Prim.Native.String.{String, [] as []ᵗ, ◌∷◌ as ◌∷ᵗ◌}
@@ -12,17 +13,15 @@ letters (c ∷ᵗ s) = code c ∷ letters s
 
 -- one value for an empty text and one for any other
 abbrev pub if_empty : {A : Type 0} → List ℕ → A → A → A
-if_empty [] a b = a
-if_empty (x ∷ l) a b = b
+if_empty l a b = cond (eqb (length l) 0) a b
 
 -- space, tab and carriage return
 abbrev pub blank : ℕ → Bool
 blank b = eqb b 32 || eqb b 9 || eqb b 13
 
 -- how many bytes in front are blanks (true), or are none (false)
-unfoldable pub front : Bool → List ℕ → ℕ
-front t [] = 0
-front t (b ∷ l) = cond (beq (blank b) t) (suc (front t l)) 0
+abbrev pub front : Bool → List ℕ → ℕ
+front t l = prefix_len (λ b. beq (blank b) t) l
 
 -- without the blanks in front
 unfoldable pub skip_blanks : List ℕ → List ℕ
@@ -47,10 +46,3 @@ word l = take (front false l) l
 -- what follows the first word and the blanks behind it
 unfoldable pub after_word : List ℕ → List ℕ
 after_word l = skip_blanks (drop (front false l) l)
-
--- two words are the same
-unfoldable pub same : List ℕ → List ℕ → Bool
-same [] [] = true
-same [] (y ∷ ys) = false
-same (x ∷ xs) [] = false
-same (x ∷ xs) (y ∷ ys) = eqb x y && same xs ys

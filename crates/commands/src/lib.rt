@@ -3,6 +3,7 @@
 #![tactic(auto)]
 
 mod counts;
+mod names;
 mod options;
 mod words;
 
@@ -11,7 +12,7 @@ pub use options::{option, without_mark};
 pub use words::{argument, first_name, parse, second_name};
 
 // What a command takes, or one of the numbers that it takes.
-#[derive(Clone, Copy)]
+#[derive(Clone, Copy, Debug, PartialEq, Eq)]
 pub enum Expected {
     Tag,
     File,
@@ -26,11 +27,17 @@ pub enum Expected {
     Salt,
 }
 
-// What a line asks for, or what is wrong with it. A tag or the name of a file is the line's argument; of two names the first is a word.
-#[derive(Clone, Copy)]
+// What a line asks for. A tag or the name of a file is the line's argument; of two names the first is a word.
+#[derive(Clone, Copy, Debug, PartialEq, Eq)]
 pub enum Command {
     Nothing,
-    Settings(u32, u32, u32, u32, u64),
+    Settings {
+        rule: u32,
+        width: u32,
+        buckets: u32,
+        mask: u32,
+        salt: u64,
+    },
     // the settings are to be told
     Present,
     Hold,
@@ -49,6 +56,11 @@ pub enum Command {
     Length,
     Stats,
     Help,
+}
+
+// What is wrong with a line.
+#[derive(Clone, Copy, Debug, PartialEq, Eq)]
+pub enum Mistake {
     // there is no such command
     Unknown,
     // what has to stand after the command is not there
@@ -60,7 +72,7 @@ pub enum Command {
 }
 
 // What an argument of the tool asks for.
-#[derive(Clone, Copy)]
+#[derive(Clone, Copy, Debug, PartialEq, Eq)]
 pub enum Choice {
     // a script of this name
     Script,
@@ -70,21 +82,11 @@ pub enum Choice {
     Report,
     Help,
     Version,
-    // there is no such option
-    Unknown,
 }
 
-// A number below 2^32 that was typed.
-#[derive(Clone, Copy)]
-enum Decimal {
-    Value(u32),
-    None,
-}
-
-// What a name asks for: nothing that there is, a command with a text, two names or nothing after it, or one that takes numbers.
-#[derive(Clone, Copy)]
+// What a name asks for: a command with a text, two names or nothing after it, or one that takes numbers.
+#[derive(Clone, Copy, Debug, PartialEq, Eq)]
 enum Asks {
-    Unknown,
     Text(Command, Expected),
     Files(Command),
     Nothing(Command),

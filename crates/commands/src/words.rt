@@ -1,313 +1,222 @@
 // A line's words, and the command that they make.
-ghost use Rattle.std.specs.Prelude.{◌≡◌, ◌≤◌, length, take};
-ghost use Rattle.commands.specs.Words.{blank as blank_of, front as front_of, skip_blanks, trim_end, trim, word as word_of, after_word, same as same_of};
-ghost use Rattle.digits.specs.Numbers.{typed_is};
-ghost use Rattle.commands.specs.Internal.{number_is};
-ghost use Rattle.commands.specs.Commands.{with_text, alone as alone_of, last_word, keywords, asks_of, named as named_of, command_of, argument_of, first_name_of, second_name_of};
-ghost use Rattle.commands.specs.Commands.{first_number, first_salt, view_command, view_line, settings_command, settings_numbers, settings_line};
+ghost use Rattle.std.specs.Prelude.{◌≡◌, ◌≤◌, ◌-◌, ◌^◌, true, length, reverse, ok_or};
+ghost use Rattle.digits.specs.Numbers.{decimal_of};
+ghost use Rattle.commands.specs.Words.{if_empty, blank as blank_of, front as front_of, skip_blanks, trim_end, trim, word as word_of, after_word};
+ghost use Rattle.commands.specs.Commands.{first_salt, view_line, settings_line, asks_of, keywords};
+ghost use Rattle.commands.specs.Commands.{named as named_of, command_of, argument_of, first_name_of, second_name_of};
 
-use super::{Asks, Command, Decimal, Expected};
-use digits::Typed;
+use super::names::find;
+use super::{Asks, Command, Expected, Mistake};
 
 // A space, a tab or the first byte of a line end of two.
 fn blank(b: u8) -> bool
     ensures { result ≡ blank_of b }
 {
-    if b == b' ' {
-        return true;
-    }
-    if b == b'\t' {
-        return true;
-    }
-    b == b'\r'
+    matches!(b, b' ' | b'\t' | b'\r')
 }
 
 // How many bytes in front are blanks, or are none.
 fn front(text: &[u8], blanks: bool) -> usize
     ensures { (result ≤ length text.now) × (result ≡ front_of blanks text.now) }
 {
-    let mut i = 0;
-    while i < text.len() {
-        if blank(text[i]) != blanks {
-            return i;
-        }
-        i += 1;
-    }
-    i
+    text.iter().take_while(|b| blank(**b) == blanks).count()
 }
 
+// How many blanks stand at the end.
+fn back(text: &[u8]) -> usize
+    ensures { (result ≤ length text.now) × (result ≡ front_of true (reverse text.now)) }
+{
+    text.iter().rev().take_while(|b| blank(**b)).count()
+}
+
+#[tactic(auto, using(digits::proofs::Texts::from), unfolding(crate::specs::Words::skip_blanks))]
 fn skip_blanks(text: &[u8]) -> &[u8]
     ensures { result.now ≡ skip_blanks text.now }
 {
-    let n = front(text, true);
-    &text[n..]
+    &text[front(text, true)..]
 }
 
-// Where the blanks at the end start.
-fn end(text: &[u8]) -> usize
-    ensures { (result ≤ length text.now) × (take result text.now ≡ trim_end text.now) }
-{
-    let mut n = text.len();
-    while n > 0 {
-        if !blank(text[n - 1]) {
-            return n;
-        }
-        n -= 1;
-    }
-    n
-}
-
+#[tactic(auto, using(crate::proofs::Scanning::counted_end))]
 fn trim_end(text: &[u8]) -> &[u8]
     ensures { result.now ≡ trim_end text.now }
 {
-    let n = end(text);
-    &text[..n]
+    &text[..text.len() - back(text)]
 }
 
+#[tactic(auto, unfolding(crate::specs::Words::trim))]
 fn trimmed(line: &[u8]) -> &[u8]
     ensures { result.now ≡ trim line.now }
 {
     trim_end(skip_blanks(line))
 }
 
-fn word(text: &[u8]) -> &[u8]
-    ensures { result.now ≡ word_of text.now }
+// The first word, and what follows it.
+#[tactic(auto, unfolding(crate::specs::Words::word, crate::specs::Words::after_word))]
+fn split(text: &[u8]) -> (&[u8], &[u8])
+    ensures first { result.0.now ≡ word_of text.now }
+    ensures rest { result.1.now ≡ after_word text.now }
 {
-    let n = front(text, false);
-    &text[..n]
+    let (first, rest) = text.split_at(front(text, false));
+    (first, skip_blanks(rest))
 }
 
-// What follows the first word.
-fn after_word(text: &[u8]) -> &[u8]
-    ensures { result.now ≡ after_word text.now }
+// Something has to stand after a command.
+fn needs(rest: &[u8], what: Expected) -> Result<(), Mistake>
+    ensures { result ≡ if_empty rest.now (Err (Mistake.Missing what)) (Ok tt) }
 {
-    let n = front(text, false);
-    skip_blanks(&text[n..])
-}
-
-pub(crate) fn same(x: &[u8], y: &[u8]) -> bool
-    ensures { result ≡ same_of x.now y.now }
-{
-    if x.len() != y.len() {
-        return false;
-    }
-    let mut i = 0;
-    while i < x.len() {
-        if x[i] != y[i] {
-            return false;
-        }
-        i += 1;
-    }
-    true
-}
-
-// A command that something has to stand after.
-fn with_text(c: Command, e: Expected, rest: &[u8]) -> Command
-    ensures { result ≡ with_text c e rest.now }
-{
-    if rest.len() == 0 {
-        Command::Missing(e)
+    if rest.is_empty() {
+        Err(Mistake::Missing(what))
     } else {
-        c
+        Ok(())
     }
 }
 
-// A command that nothing more stands after.
-fn alone(c: Command, e: Expected, rest: &[u8]) -> Command
-    ensures { result ≡ alone_of c e rest.now }
+// Nothing more may.
+fn ends(rest: &[u8], what: Expected) -> Result<(), Mistake>
+    ensures { result ≡ if_empty rest.now (Ok tt) (Err (Mistake.Extra what)) }
 {
-    if rest.len() == 0 {
-        c
+    if rest.is_empty() {
+        Ok(())
     } else {
-        Command::Extra(e)
+        Err(Mistake::Extra(what))
     }
 }
 
-// A command that takes one word more, the last.
-fn last_word(c: Command, e: Expected, rest: &[u8]) -> Command
-    ensures { result ≡ last_word c e rest.now }
+// The number that a word is.
+fn number(word: &[u8], what: Expected) -> Result<u32, Mistake>
+    ensures { result ≡ ok_or (decimal_of (2 ^ 32 - 1) word.now) (Mistake.NotNumber what) }
 {
-    with_text(alone(c, e, after_word(rest)), e, rest)
-}
-
-// The number that the first word is.
-fn first_number(text: &[u8]) -> Decimal
-    ensures { number_is result ≡ first_number text.now }
-{
-    match digits::decimal(word(text), 4294967295) {
-        Typed::Number(n) => Decimal::Value(n as u32),
-        Typed::None => Decimal::None,
-    }
+    let n = digits::decimal(word, u64::from(u32::MAX)).ok_or(Mistake::NotNumber(what))?;
+    Ok(n as u32)
 }
 
 // The salt that the first word is, 0 where there is none.
-fn first_salt(text: &[u8]) -> Typed
-    ensures { typed_is result ≡ first_salt text.now }
+fn salt_at(text: &[u8]) -> Result<u64, Mistake>
+    ensures { result ≡ ok_or (first_salt text.now) (Mistake.NotNumber Expected.Salt) }
 {
-    if text.len() == 0 {
-        return Typed::Number(0);
+    if text.is_empty() {
+        return Ok(0);
     }
-    digits::number(word(text), 18446744073709551615)
-}
-
-fn view_command(bucket: Decimal) -> Command
-    ensures { result ≡ view_command (number_is bucket) }
-{
-    match bucket {
-        Decimal::Value(b) => Command::View(b),
-        Decimal::None => Command::NotNumber(Expected::Bucket),
-    }
+    digits::number(split(text).0, u64::MAX).ok_or(Mistake::NotNumber(Expected::Salt))
 }
 
 // The command that takes one number.
-fn view_line(rest: &[u8]) -> Command
+#[tactic(auto, using(std::proofs::lemmas::Bool::Decides::nat_tests), unfolding(crate::specs::Commands::view_line))]
+fn view_line(rest: &[u8]) -> Result<Command, Mistake>
     ensures { result ≡ view_line rest.now }
 {
-    last_word(view_command(first_number(rest)), Expected::Bucket, rest)
-}
-
-fn settings_command(
-    rule: Decimal,
-    width: Decimal,
-    buckets: Decimal,
-    mask: Decimal,
-    salt: Typed,
-) -> Command
-    ensures { result ≡ settings_command (number_is rule) (number_is width) (number_is buckets) (number_is mask) (typed_is salt) }
-{
-    let Decimal::Value(r) = rule else {
-        return Command::NotNumber(Expected::Rule);
-    };
-    let Decimal::Value(w) = width else {
-        return Command::NotNumber(Expected::Width);
-    };
-    let Decimal::Value(m) = buckets else {
-        return Command::NotNumber(Expected::Buckets);
-    };
-    let Decimal::Value(k) = mask else {
-        return Command::NotNumber(Expected::Mask);
-    };
-    let Typed::Number(s) = salt else {
-        return Command::NotNumber(Expected::Salt);
-    };
-    Command::Settings(r, w, m, k, s)
-}
-
-// The command with its four numbers, and the salt if there is one.
-fn settings_numbers(rest: &[u8]) -> Command
-    ensures { result ≡ settings_numbers rest.now }
-{
-    let second = after_word(rest);
-    let third = after_word(second);
-    let fourth = after_word(third);
-    let fifth = after_word(fourth);
-    let rule = first_number(rest);
-    let width = first_number(second);
-    let buckets = first_number(third);
-    let mask = first_number(fourth);
-    let salt = first_salt(fifth);
-    let command = settings_command(rule, width, buckets, mask, salt);
-    let last = alone(command, Expected::Settings, after_word(fifth));
-    with_text(last, Expected::Settings, fourth)
+    let (bucket, more) = split(rest);
+    needs(rest, Expected::Bucket)?;
+    ends(more, Expected::Bucket)?;
+    Ok(Command::View(number(bucket, Expected::Bucket)?))
 }
 
 // The command that takes numbers, or none to have the present ones told.
-fn settings_line(rest: &[u8]) -> Command
+#[tactic(auto, using(std::proofs::lemmas::Bool::Decides::nat_tests), unfolding(crate::specs::Commands::settings_line, crate::specs::Commands::settings_numbers))]
+fn settings_line(rest: &[u8]) -> Result<Command, Mistake>
     ensures { result ≡ settings_line rest.now }
 {
-    if rest.len() == 0 {
-        return Command::Present;
+    if rest.is_empty() {
+        return Ok(Command::Present);
     }
-    settings_numbers(rest)
+    let (rule, second) = split(rest);
+    let (width, third) = split(second);
+    let (buckets, fourth) = split(third);
+    let (mask, fifth) = split(fourth);
+    needs(fourth, Expected::Settings)?;
+    ends(split(fifth).1, Expected::Settings)?;
+    Ok(Command::Settings {
+        rule: number(rule, Expected::Rule)?,
+        width: number(width, Expected::Width)?,
+        buckets: number(buckets, Expected::Buckets)?,
+        mask: number(mask, Expected::Mask)?,
+        salt: salt_at(fifth)?,
+    })
 }
 
-// The keywords: their names, and what each asks for, in the same order.
-const NAMES: [u8; 96] =
-    *b"hold release lookup forecast save load pack unpack convert view settings clear length stats help";
-
-const KEYWORDS: usize = 15;
-
-const ASKS: [Asks; KEYWORDS] = [
-    Asks::Text(Command::Hold, Expected::Tag),
-    Asks::Text(Command::Release, Expected::Tag),
-    Asks::Text(Command::Lookup, Expected::Tag),
-    Asks::Text(Command::Forecast, Expected::Tag),
-    Asks::Text(Command::Save, Expected::File),
-    Asks::Text(Command::Load, Expected::File),
-    Asks::Text(Command::Pack, Expected::File),
-    Asks::Text(Command::Unpack, Expected::File),
-    Asks::Files(Command::Convert),
-    Asks::View,
-    Asks::Settings,
-    Asks::Nothing(Command::Clear),
-    Asks::Nothing(Command::Length),
-    Asks::Nothing(Command::Stats),
-    Asks::Nothing(Command::Help),
+// The keywords, and what each asks for.
+static KEYWORDS: [(&str, Asks); 15] = [
+    ("hold", Asks::Text(Command::Hold, Expected::Tag)),
+    ("release", Asks::Text(Command::Release, Expected::Tag)),
+    ("lookup", Asks::Text(Command::Lookup, Expected::Tag)),
+    ("forecast", Asks::Text(Command::Forecast, Expected::Tag)),
+    ("save", Asks::Text(Command::Save, Expected::File)),
+    ("load", Asks::Text(Command::Load, Expected::File)),
+    ("pack", Asks::Text(Command::Pack, Expected::File)),
+    ("unpack", Asks::Text(Command::Unpack, Expected::File)),
+    ("convert", Asks::Files(Command::Convert)),
+    ("view", Asks::View),
+    ("settings", Asks::Settings),
+    ("clear", Asks::Nothing(Command::Clear)),
+    ("length", Asks::Nothing(Command::Length)),
+    ("stats", Asks::Nothing(Command::Stats)),
+    ("help", Asks::Nothing(Command::Help)),
 ];
 
 // What a name asks for.
-fn keyword(name: &[u8]) -> Asks
+fn keyword(name: &[u8]) -> Option<Asks>
     ensures { result ≡ asks_of name.now keywords }
 {
-    let asks = ASKS;
-    let mut rest: &[u8] = &NAMES;
-    let mut k = 0;
-    while k < KEYWORDS {
-        if same(name, word(rest)) {
-            return asks[k];
-        }
-        let next = after_word(rest);
-        rest = next;
-        k += 1;
-    }
-    Asks::Unknown
+    find(&KEYWORDS, name)
 }
 
 // The command of a name, by what follows it.
-fn named(name: &[u8], rest: &[u8]) -> Command
+#[tactic(auto, using(std::proofs::lemmas::Bool::Decides::nat_tests), unfolding(crate::specs::Commands::named))]
+fn named(name: &[u8], rest: &[u8]) -> Result<Command, Mistake>
     ensures { result ≡ named_of name.now rest.now }
 {
-    match keyword(name) {
-        Asks::Text(c, e) => with_text(c, e, rest),
-        Asks::Files(c) => with_text(c, Expected::Files, after_word(rest)),
-        Asks::Nothing(c) => alone(c, Expected::Nothing, rest),
+    match keyword(name).ok_or(Mistake::Unknown)? {
+        Asks::Text(command, what) => {
+            needs(rest, what)?;
+            Ok(command)
+        }
+        Asks::Files(command) => {
+            needs(split(rest).1, Expected::Files)?;
+            Ok(command)
+        }
+        Asks::Nothing(command) => {
+            ends(rest, Expected::Nothing)?;
+            Ok(command)
+        }
         Asks::View => view_line(rest),
         Asks::Settings => settings_line(rest),
-        Asks::Unknown => Command::Unknown,
     }
 }
 
 // What a line asks for. The line has no line end.
-pub fn parse(line: &[u8]) -> Command
+#[tactic(auto, using(std::proofs::lemmas::Bool::Decides::nat_tests), unfolding(crate::specs::Commands::command_of, crate::specs::Commands::command_in))]
+pub fn parse(line: &[u8]) -> Result<Command, Mistake>
     ensures { result ≡ command_of line.now }
 {
-    let words = trimmed(line);
-    if words.len() == 0 {
-        return Command::Nothing;
+    match trimmed(line) {
+        [] | [b'#', ..] => Ok(Command::Nothing),
+        words => {
+            let (name, rest) = split(words);
+            named(name, rest)
+        }
     }
-    if words[0] == b'#' {
-        return Command::Nothing;
-    }
-    named(word(words), after_word(words))
 }
 
 // The tag or the file's name that a line has.
+#[tactic(auto, unfolding(crate::specs::Commands::argument_of))]
 pub fn argument(line: &[u8]) -> &[u8]
     ensures { result.now ≡ argument_of line.now }
 {
-    after_word(trimmed(line))
+    split(trimmed(line)).1
 }
 
 // The first of a line's two names, a word.
+#[tactic(auto, unfolding(crate::specs::Commands::first_name_of))]
 pub fn first_name(line: &[u8]) -> &[u8]
     ensures { result.now ≡ first_name_of line.now }
 {
-    word(argument(line))
+    split(argument(line)).0
 }
 
 // The second, which is all that follows.
+#[tactic(auto, unfolding(crate::specs::Commands::second_name_of))]
 pub fn second_name(line: &[u8]) -> &[u8]
     ensures { result.now ≡ second_name_of line.now }
 {
-    after_word(argument(line))
+    split(argument(line)).1
 }

@@ -1,41 +1,27 @@
--- Whether a byte is in a range of digits, and whether a text has the mark.
+-- What std's tests say of a digit and of the mark.
 -- Assumes nothing.
 use mathlib.Core.Path.{◌≡◌, refl}
-use mathlib.Core.Bool.{true, false, ◌&&◌}
 use mathlib.Core.List.{List, [], ◌∷◌}
-use mathlib.Core.Logic.{◌≢◌}
-use Prim.Native.Nat.{ℕ, ◌≤◌, ◌<◌}
+use Prim.Native.Nat.{ℕ, ◌<◌}
 use native.Mathlib.Omega.{arith}
-use borrow.Author.Tests.{le-leb, lt-leb, eq-eqb, ne_eqb}
-use lib.Dec.{eqb, leb}
-use lib.ListN.{length, get_or}
-use Rattle.digits.specs.Digits.{hex_mark}
+use lib.Dec.{eqb}
+use lib.ListN.{take}
+use Rattle.std.specs.Cmp.Lexicographic.{pointwise}
+use Rattle.std.specs.Prelude.{None, Some}
+use Rattle.std.proofs.lemmas.Bool.Decides.{nat_tests}
+use Rattle.digits.specs.Digits.{hex_value, digit_of, hex_mark}
 
-module _ (m n b : ℕ) where
-  pub in-range : m ≤ b → leb b n ≡ true → (leb m b && leb b n) ≡ true
-  in-range h e = rw (le-leb m b h, e)
+-- ── a digit ──
+module _ (b : ℕ) where
+  pub no-digit : None ≡ digit_of b → 15 < hex_value b
+  no-digit h = grind (arith, nat_tests)
 
-  pub past-range : m ≤ b → leb b n ≡ false → (leb m b && leb b n) ≡ false
-  past-range h e = rw (le-leb m b h, e)
-
-  pub below-range : b < m → (leb m b && leb b n) ≡ false
-  below-range h = rw (lt-leb m b h)
+  pub is-digit : {d : ℕ} → Some d ≡ digit_of b → d ≡ hex_value b
+  is-digit h = grind (arith, nat_tests)
 
 -- ── the mark ──
-pub mark-short : (t : List ℕ) → length t < 2 → hex_mark t ≡ false
+pub mark : (t : List ℕ) → pointwise eqb (take 2 t) (48 ∷ 120 ∷ []) ≡ hex_mark t
 unfolding hex_mark
-mark-short [] h = refl
-mark-short (a ∷ []) h = refl
-mark-short (a ∷ b ∷ l) h = absurd (omega arith)
-
-pub mark-first : (t : List ℕ) → 2 ≤ length t → get_or t 0 0 ≢ 48 → hex_mark t ≡ false
-unfolding hex_mark
-mark-first [] h n = absurd (omega arith)
-mark-first (a ∷ []) h n = absurd (omega arith)
-mark-first (a ∷ b ∷ l) h n = rw (ne_eqb a 48 n) refl
-
-pub mark-second : (t : List ℕ) → 2 ≤ length t → get_or t 0 0 ≡ 48 → hex_mark t ≡ eqb (get_or t 1 0) 120
-unfolding hex_mark
-mark-second [] h e = absurd (omega arith)
-mark-second (a ∷ []) h e = absurd (omega arith)
-mark-second (a ∷ b ∷ l) h e = rw (eq-eqb a 48 e) refl
+mark [] = refl
+mark (a ∷ []) = grind (arith, nat_tests)
+mark (a ∷ b ∷ l) = grind (arith, nat_tests)

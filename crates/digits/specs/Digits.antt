@@ -1,6 +1,6 @@
 -- Digits as they are typed, and the mark before hexadecimal ones.
 -- Assumes nothing.
-use Rattle.std.specs.Prelude.{Bool, false, cond, ◌&&◌, List, [], ◌∷◌, ℕ, ◌-◌, eqb, leb}
+use Rattle.std.specs.Prelude.{Bool, false, cond, ◌&&◌, List, [], ◌∷◌, ℕ, ◌-◌, eqb, leb, Option, None, Some}
 
 -- a hexadecimal digit's value, 16 for any other byte
 unfoldable pub hex_value : ℕ → ℕ
@@ -11,6 +11,10 @@ hex_value b =
 
 abbrev pub hex_digit : ℕ → Bool
 hex_digit b = leb (hex_value b) 15
+
+-- what the call answers of it
+abbrev pub digit_of : ℕ → Option ℕ
+digit_of b = cond (hex_digit b) (Some (hex_value b)) None
 
 -- whether text starts with 0x
 unfoldable pub hex_mark : List ℕ → Bool

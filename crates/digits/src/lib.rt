@@ -1,97 +1,67 @@
 // Digits as they are typed, and the numbers that they make.
 #![tactic(auto)]
 
-ghost use Rattle.std.specs.Prelude.{◌≡◌, ◌+◌, ◌*◌, ◌≤◌, ◌<◌, leb};
-ghost use Rattle.digits.specs.Digits.{hex_value, hex_mark};
-ghost use Rattle.digits.specs.Numbers.{value_of, decimal_of, number_of, typed_is, number_told};
+ghost use Rattle.std.specs.Prelude.{◌≡◌, ◌≤◌, true, false, IfSome, IfNone, drop};
+ghost use Rattle.digits.specs.Digits.{digit_of, hex_mark};
+ghost use Rattle.digits.specs.Numbers.{value_of, decimal_of, number_of};
 
-// A number that was typed.
-#[derive(Clone, Copy)]
-pub enum Typed {
-    Number(u64),
-    None,
+// The value of a hexadecimal digit. Any other byte has none.
+#[tactic(auto, using(std::proofs::lemmas::Bool::Decides::nat_tests), unfolding(crate::specs::Digits::hex_value))]
+pub fn hex_value(b: u8) -> Option<u8>
+    ensures { result ≡ digit_of b }
+{
+    Some(char::from(b).to_digit(16)? as u8)
 }
 
-// The value of a hexadecimal digit, 16 for any other byte.
-pub fn hex_value(b: u8) -> u8
-    ensures { result ≡ hex_value b }
+// What follows 0x, where text starts with it.
+#[tactic(auto, using(crate::proofs::Digits::mark))]
+pub fn after_mark(text: &[u8]) -> Option<&[u8]>
+    ensures none { IfNone result (hex_mark text.now ≡ false) }
+    ensures rest { IfSome result (λ rest. (hex_mark text.now ≡ true) × (rest.now ≡ drop 2 text.now)) }
 {
-    if b'0' <= b && b <= b'9' {
-        return b - b'0';
-    }
-    if b'a' <= b && b <= b'f' {
-        return b - b'a' + 10;
-    }
-    if b'A' <= b && b <= b'F' {
-        return b - b'A' + 10;
-    }
-    16
-}
-
-// Whether text starts with 0x.
-pub fn is_marked(text: &[u8]) -> bool
-    ensures { result ≡ hex_mark text.now }
-{
-    if text.len() < 2 {
-        return false;
-    }
-    if text[0] != b'0' {
-        return false;
-    }
-    text[1] == b'x'
-}
-
-// Whether a number with one digit more is within the limit. That number is not made: it may not fit.
-fn has_room(n: u64, digit: u64, base: u64, most: u64) -> bool
-    requires { 0 < base }
-    ensures { result ≡ leb (base * n + digit) most }
-{
-    if digit > most {
-        return false;
-    }
-    n <= (most - digit) / base
+    text.strip_prefix(b"0x")
 }
 
 // The number that the digits of one base make. There is none without a digit, and none above the limit.
-fn number_in(text: &[u8], base: u64, most: u64) -> Typed
+#[tactic(auto, using(crate::proofs::Numbers::steps))]
+fn number_in(text: &[u8], base: u64, most: u64) -> Option<u64>
     requires { (2 ≤ base) × (base ≤ 16) }
-    ensures result_value { typed_is result ≡ value_of base most text.now }
-    ensures result_bound { number_told result ≤ most }
+    ensures result_value { result ≡ value_of base most text.now }
+    ensures result_bound { IfSome result (λ n. n ≤ most) }
 {
-    if text.len() == 0 {
-        return Typed::None;
+    if text.is_empty() {
+        return None;
     }
     let mut n = 0u64;
-    let mut i = 0;
-    while i < text.len() {
-        let digit = hex_value(text[i]) as u64;
+    for &b in text {
+        let digit = u64::from(hex_value(b)?);
         if digit >= base {
-            return Typed::None;
+            return None;
         }
-        if !has_room(n, digit, base, most) {
-            return Typed::None;
+        n = base.checked_mul(n)?.checked_add(digit)?;
+        if n > most {
+            return None;
         }
-        n = base * n + digit;
-        i += 1;
     }
-    Typed::Number(n)
+    Some(n)
 }
 
 // A number in decimal digits, at most the limit.
-pub fn decimal(text: &[u8], most: u64) -> Typed
-    ensures result_value { typed_is result ≡ decimal_of most text.now }
-    ensures result_bound { number_told result ≤ most }
+pub fn decimal(text: &[u8], most: u64) -> Option<u64>
+    ensures result_value { result ≡ decimal_of most text.now }
+    ensures result_bound { IfSome result (λ n. n ≤ most) }
 {
     number_in(text, 10, most)
 }
 
 // A number in decimal digits, or in hexadecimal ones after 0x, at most the limit.
-pub fn number(text: &[u8], most: u64) -> Typed
-    ensures result_value { typed_is result ≡ number_of most text.now }
-    ensures result_bound { number_told result ≤ most }
+#[tactic(auto, unfolding(crate::specs::Numbers::number_of))]
+pub fn number(text: &[u8], most: u64) -> Option<u64>
+    ensures result_value { result ≡ number_of most text.now }
+    ensures result_bound { IfSome result (λ n. n ≤ most) }
 {
-    if is_marked(text) {
-        return number_in(&text[2..], 16, most);
+    match after_mark(text) {
+        Some(digits) => number_in(digits, 16, most),
+        None => decimal(text, most),
     }
-    decimal(text, most)
 }

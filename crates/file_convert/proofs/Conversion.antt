@@ -1,9 +1,8 @@
 -- What the converter makes of a file, and which number it gives.
 -- Assumes nothing.
 use mathlib.Core.Path.{◌≡◌, refl, sym, ap, ap₂, ◌∙◌}
-use mathlib.Core.Logic.{◌≢◌}
 use mathlib.Core.Bool.{Bool, true, false, not}
-use mathlib.Core.Option.{none}
+use mathlib.Core.Option.{Option, none}
 use mathlib.Core.List.{List, [], ◌∷◌, ◌++◌}
 use Prim.Native.Nat.{ℕ, ◌+◌, ◌*◌, ◌-◌, ◌≤◌, ◌<◌}
 use native.Mathlib.Decide.{dec_le}
@@ -11,17 +10,17 @@ use native.Mathlib.Omega.{arith}
 use borrow.Author.Tests.{lt-ltb, le-ltb}
 use lib.Dec.{eqb}
 use lib.ListN.{length, take, drop, length-append, length-drop}
-use lib.Seq.{sets}
+use lib.Seq.{sets, take_all}
+use borrow.Rule.Slice.PartMut.{put_mid}
 use Rattle.lemmas.specs.Bytes.{AllBytes}
 use Rattle.lemmas.specs.Stores.{Put}
-use Rattle.lemmas.proofs.Stores.{put-from-start}
-use Rattle.refusals.specs.Checks.{number_of}
+use Rattle.lemmas.proofs.Stores.{put-from-start, put-length}
+use Rattle.file_header.proofs.Laws.{part-stored}
 use Rattle.refusals.specs.Outcomes.{Answer, refused, given, Done, done, Outcome, outcome, keeping}
-use Rattle.refusals.proofs.Cursor.{start, met, passed, none_left, number_passed, call-refused, call-goes-on}
-use Rattle.index.specs.Settings.{default_settings, Representable, degenerate, former_checks, former_refusal, settings_checks, settings_refusal, unmasked}
+use Rattle.refusals.proofs.Cursor.{start, met, passed, none_left, call-refused, call-goes-on}
+use Rattle.index.specs.Settings.{default_settings, Representable, degenerate, former_checks, former_refusal, settings_refusal, unmasked}
 use Rattle.index.specs.Laws.{Laws}
 use Rattle.index.specs.declared.Settings.{Settings}
-use Rattle.index.proofs.Checks.{check-laws}
 use Rattle.index.proofs.DegenerateMasks.{degenerate-laws}
 use Rattle.calls.specs.Calls.{Sound}
 use Rattle.calls.proofs.Laws.{writer-laws}
@@ -34,7 +33,10 @@ use Rattle.file_form.specs.Reader.{read_all, read_file}
 use Rattle.file_form.specs.RoundTrip.{SoundFile}
 use Rattle.file_form.proofs.Laws.{header-laws}
 use Rattle.file_form.proofs.RoundTrip.{any-reader, written-is-read}
-use Rattle.file_header.specs.declared.HeaderRead.{HeaderRead}
+use Rattle.std.specs.Prelude.{Result, Ok, Err}
+use Rattle.std.specs.Result.{is_ok}
+use Rattle.refusals.specs.Refusals.{refused_by}
+use Rattle.refusals.specs.declared.Refusal.{Refusal}
 use Rattle.holdfile.specs.Answers.{Examined}
 use Rattle.file_convert.specs.Converter.{cleared, without, plain_bytes, convert_checks, from_file, convert_file}
 use Rattle.file_convert.specs.Conversion.{FormerList, Converts}
@@ -184,36 +186,60 @@ converts = record {
 }
 
 -- ── the steps of the code: a file that was examined ──
-module _ (s : Settings) (bytes : List ℕ) (at : ℕ) (all : AllBytes bytes) (E : Examined bytes (HeaderRead.Fields s at)) (out : List ℕ) where
+-- what a check's result says of the refusal
+pub passes-none : (r : Result (Unit {0}) Refusal) {o : Option ℕ} → refused_by r ≡ o → is_ok r ≡ true → o ≡ none
+passes-none (Ok x) e h = sym e
+passes-none (Err x) e h = cc
+
+pub refuses-some : (r : Result (Unit {0}) Refusal) {o : Option ℕ} → refused_by r ≡ o → is_ok r ≡ false → o ≡ none → ⊥
+refuses-some (Ok x) e h n = cc
+refuses-some (Err x) e h n = cc
+
+-- a file that was examined, of a degenerate mask: its header under the plain rule, and what stands behind it
+pub record Idle (s : Settings) (bytes : List ℕ) (at : ℕ) : Type 0 where
+  pub sound : (c : List ℕ) × (read_all former_checks bytes ≡ next (done s c) [])
+  pub idle : degenerate s ≡ true
+  pub plain : plain_bytes bytes ≡ header (unmasked s) ++ drop at bytes
+  pub inside : at ≤ length bytes
+
+module _ (s : Settings) (bytes : List ℕ) (at : ℕ) (all : AllBytes bytes) (E : Examined bytes (Ok (s, at))) where
   passed-before : former_refusal s ≡ none
   passed-before = ((any-reader former_checks).only bytes E.2.0 [] s all E.2.1).0
 
-  module _ {n : ℕ} (q : n ≡ number_of (settings_refusal s)) where
-    pub code_other : n ≡ 0 → outcome (refused 24) out ≡ convert_file bytes out
-    code_other h = other bytes out E.2.1 ((degenerate-laws s).passes.0 (number_passed (settings_checks s) q (check-laws s).numbered h)).1
+  pub code_other : (out : List ℕ) → settings_refusal s ≡ none → outcome (refused 24) out ≡ convert_file bytes out
+  code_other out h = other bytes out E.2.1 ((degenerate-laws s).passes.0 h).1
 
-    module _ (h : n ≢ 0) where
-      idle : degenerate s ≡ true
-      idle = go (degenerate s) refl
-        where
-          go : (b : Bool) → degenerate s ≡ b → b ≡ true
-          go true e = refl
-          go false e = absurd (h (q ∙ ap number_of ((degenerate-laws s).passes.1 (passed-before, e))))
+  pub idle-file : (settings_refusal s ≡ none → ⊥) → Idle s bytes at
+  idle-file h =
+      let d = is_idle (degenerate s) refl in
+      let k = header-laws.only bytes (drop at bytes) s all E.1 in
+      record { sound = E.2; idle = d; plain = ap plain_bytes (sym k.0) ∙ header-without s passed-before d k.1 (drop at bytes); inside = E.0 }
+    where
+      is_idle : (b : Bool) → degenerate s ≡ b → b ≡ true
+      is_idle true e = refl
+      is_idle false e = absurd (h ((degenerate-laws s).passes.1 (passed-before, e)))
 
-      plain-is : plain_bytes bytes ≡ header (unmasked s) ++ drop at bytes
-      plain-is =
-          let k = header-laws.only bytes (drop at bytes) s all E.1 in
-          ap plain_bytes (sym k.0) ∙ header-without s passed-before idle k.1 (drop at bytes)
+-- the rest of the bytes as the code takes it
+abbrev rest_of : List ℕ → ℕ → List ℕ
+rest_of bytes at = take (length bytes - at) (drop at bytes)
 
-      pub plain-length : length (plain_bytes bytes) ≡ length (header (unmasked s)) + (length bytes - at)
-      plain-length = omega (arith, ap length plain-is, length-append (header (unmasked s)) (drop at bytes), length-drop at bytes)
+module _ {s : Settings} {bytes : List ℕ} {at : ℕ} (I : Idle s bytes at) (out : List ℕ) {n : ℕ} (head : n ≡ length (header (unmasked s))) where
+  rest-is : rest_of bytes at ≡ drop at bytes
+  rest-is = take_all (length bytes - at) (drop at bytes) (omega (arith, length-drop at bytes))
 
-      pub code-short : {k : ℕ} → k ≡ length (plain_bytes bytes) → length out < k → outcome (refused 16) out ≡ convert_file bytes out
-      code-short e l = short bytes out E.2.1 idle (omega arith)
+  needed : n + length (rest_of bytes at) ≡ length (plain_bytes bytes)
+  needed = omega (arith, head, ap length rest-is, ap length I.plain, length-append (header (unmasked s)) (drop at bytes))
 
-      pub code-written : {k : ℕ} → k ≡ length (plain_bytes bytes) → k ≤ length out → (mid after : List ℕ) (to : ℕ) → Put out mid 0 (header (unmasked s)) to → after ≡ sets mid to (drop at bytes)
-          → outcome (given k) after ≡ convert_file bytes out
-      code-written e l mid after to p w =
-          let whole = put-from-start (drop at bytes) p w (omega (arith, ap length plain-is)) in
-          let shown : after ≡ plain_bytes bytes ++ drop (length (plain_bytes bytes)) out = whole ∙ sym (ap (λ (x : List ℕ). x ++ drop (length x) out) plain-is) in
-          ap₂ (λ (x : ℕ) (y : List ℕ). outcome (given x) y) e shown ∙ writes bytes out E.2.1 idle (omega arith)
+  pub code-short : length out < n + length (rest_of bytes at) → outcome (refused 16) out ≡ convert_file bytes out
+  code-short h = short bytes out I.sound.1 I.idle (omega (arith, needed))
+
+  module _ (room : n + length (rest_of bytes at) ≤ length out) {mid part : List ℕ} {to : ℕ} (put : Put out mid 0 (header (unmasked s)) to) (copied : part ≡ rest_of bytes at) where
+    stored : put_mid to (n + length (rest_of bytes at) - to) mid part ≡ sets mid to (drop at bytes)
+    stored = part-stored to (n + length (rest_of bytes at)) mid part (drop at bytes) (omega (arith, head, put.place, ap length rest-is)) (omega (arith, put-length put)) (copied ∙ rest-is)
+
+    pub code-written : outcome (given (n + length (rest_of bytes at))) (put_mid to (n + length (rest_of bytes at) - to) mid part) ≡ convert_file bytes out
+    code-written =
+        let whole = put-from-start (drop at bytes) put stored (omega (arith, ap length I.plain, needed)) in
+        let shown : put_mid to (n + length (rest_of bytes at) - to) mid part ≡ plain_bytes bytes ++ drop (length (plain_bytes bytes)) out =
+        whole ∙ sym (ap (λ (x : List ℕ). x ++ drop (length x) out) I.plain) in
+        ap₂ (λ (x : ℕ) (y : List ℕ). outcome (given x) y) needed shown ∙ writes bytes out I.sound.1 I.idle (omega (arith, needed))

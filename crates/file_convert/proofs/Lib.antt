@@ -2,4 +2,3 @@
 pub mod Conversion
 pub mod Order
 pub mod Positive
-pub mod Copying

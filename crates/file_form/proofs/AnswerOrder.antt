@@ -21,7 +21,8 @@ use Rattle.file_form.specs.Bytes.{bit0, bit1, bit2, bit3}
 use Rattle.file_form.specs.Parsed.{Parsed, stop, next, and_then, refuse_if, checked}
 use Rattle.file_form.specs.Fields.{bit, any_of, take_number, field, take_fields}
 use Rattle.file_form.specs.Header.{sizes, settings_from, defaults, map_checks, misfits, misfit}
-use Rattle.file_form.specs.Reader.{fitting, read_fields, settings_after_map, read_header, read_cell, read_cells, read_bucket, read_buckets, after_buckets, after_header, read_all, into, read_file}
+use Rattle.file_form.specs.Reader.{fitting, read_fields, settings_after_map, read_header, read_cell, read_cells, read_bucket, read_buckets, after_buckets, after_header}
+use Rattle.file_form.specs.Reader.{read_all, into, read_file}
 use Rattle.file_form.specs.AnswerOrder.{fields_length, ReadOrder, AnswerOrder}
 use Rattle.file_form.proofs.Parses.{onward, split, same_next}
 use Rattle.file_form.proofs.Maps.{map-passes}

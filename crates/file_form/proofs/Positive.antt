@@ -22,7 +22,8 @@ use Rattle.file_form.specs.Parsed.{Parsed, stop, next, and_then, refuse_if, chec
 use Rattle.file_form.specs.Fields.{bit, take_number, field, take_fields}
 use Rattle.file_form.specs.Header.{sizes, settings_from, defaults, map_checks, misfit}
 use Rattle.file_form.specs.Writer.{file_of, write_file, length_of_file}
-use Rattle.file_form.specs.Reader.{take_byte, take_pair, fitting, read_fields, settings_after_map, read_header, read_cell, read_cells, read_bucket, read_buckets, bytes_left_over, after_buckets, after_header, read_all, into, read_file, named, header_answer}
+use Rattle.file_form.specs.Reader.{take_byte, take_pair, fitting, read_fields, settings_after_map, read_header, read_cell, read_cells, read_bucket, read_buckets}
+use Rattle.file_form.specs.Reader.{bytes_left_over, after_buckets, after_header, read_all, into, read_file, named, header_answer}
 use Rattle.file_form.specs.Positive.{PositiveFiles}
 use Rattle.file_form.proofs.Laws.{header-laws}
 

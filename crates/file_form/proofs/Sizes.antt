@@ -68,4 +68,4 @@ module _ (s : Settings) (c : List ℕ) where
   unfolding length_of_file file_of
   file-length-laws =
       let L = length-laws s c (header s ++ body c) in
-      record { parts = parts; stopped = λ e h. L.stopped e h; wide = L.wide; gives = L.gives; tells = tells; most = most }
+      record { parts = parts; stopped = λ e. L.stopped e; wide = L.wide; gives = L.gives; tells = tells; most = most }

@@ -1,9 +1,9 @@
 -- What the code uses of the definitions: the header, and how many bytes there are. `proofs/Laws.antt` and `proofs/Sizes.antt` prove it.
 -- Assumes nothing.
-use Rattle.std.specs.Prelude.{◌≡◌, ◌≢◌, true, false, cond, not, List, ◌++◌, ℕ, ◌+◌, ◌*◌, ◌^◌, ◌≤◌, ◌<◌, eqb, length, get_or}
-use Rattle.std.proofs.Math.Option.{none}
+use Rattle.std.specs.Prelude.{◌≡◌, true, false, cond, not, List, ◌++◌, ℕ, ◌+◌, ◌*◌, ◌^◌, ◌≤◌, ◌<◌, eqb, length, get_or}
+use Rattle.std.proofs.Math.Option.{none, some}
 use Rattle.lemmas.specs.Bytes.{AllBytes}
-use Rattle.refusals.specs.Checks.{first_met, number_of, Numbered}
+use Rattle.refusals.specs.Checks.{first_met, Numbered}
 use Rattle.refusals.specs.Outcomes.{refused, given}
 use Rattle.index.specs.Settings.{Representable}
 use Rattle.index.specs.Laws.{Laws}
@@ -44,7 +44,7 @@ pub record SizeLaws : Type 0 where
 -- the length of the whole file: its checks in the order in which the code makes them, and what it tells
 pub record FileLengthLaws (s : Settings) (c : List ℕ) : Type 0 where
   pub parts : length (file_of s c) ≡ length (header s) + length (body c)
-  pub stopped : {n : ℕ} → n ≡ number_of (first_met (table_checks s c)) → n ≢ 0 → refused n ≡ length_of_file s c
+  pub stopped : {n : ℕ} → some n ≡ first_met (table_checks s c) → refused n ≡ length_of_file s c
   pub wide : Sound s c → any_from (2 ^ s.width) c ≡ true → refused 17 ≡ length_of_file s c
   pub gives : Sound s c → any_from (2 ^ s.width) c ≡ false → given (length (file_of s c)) ≡ length_of_file s c
   pub tells : (n : ℕ) → length_of_file s c ≡ given n → Sound s c × (n ≡ length (file_of s c))

@@ -2,60 +2,79 @@
 -- Assumes nothing.
 use mathlib.Core.Path.{◌≡◌, refl, sym, ap, ap₂, ◌∙◌}
 use mathlib.Core.Logic.{◌≢◌}
-use mathlib.Core.Bool.{Bool, cond, not}
-use mathlib.Core.Option.{Option, none}
+use mathlib.Core.Bool.{Bool, true, false, cond, not, ◌&&◌}
+use mir.Val.{bool_byte}
+use mathlib.Core.Option.{Option, none, some}
 use mathlib.Core.List.{List, [], ◌∷◌, ◌++◌, append-nil}
-use Prim.Native.Nat.{ℕ, suc, ◌+◌, ◌*◌, ◌-◌, ◌/◌, ◌%◌, ◌^◌, ◌≤◌, ◌<◌}
+use Prim.Native.Nat.{ℕ, zero, suc, ◌+◌, ◌*◌, ◌-◌, ◌/◌, ◌≤◌, ◌<◌}
 use native.Mathlib.Numerals.{add-one}
 use native.Mathlib.Omega.{arith}
-use borrow.Author.Tests.{eq-eqb, ne_eqb, le-leb, lt-leb}
-use lib.Dec.{eqb}
-use lib.ListN.{length, take, drop, get_or, set, length-take, length-drop, drop_of_length-le}
-use lib.Pow.{pow_mono}
+use borrow.Author.Tests.{leb-true, eq-eqb, ne_eqb, le-leb, lt-leb}
+use lib.Dec.{eqb, leb}
+use lib.ListN.{length, take, drop, get_or, set, length-drop, drop_of_length-le}
 use lib.Seq.{drop-cons, sets, take_all, take-suc-set, drop-set-lt, drop-drop}
 use Rattle.lemmas.specs.Stores.{Put}
+use Rattle.lemmas.proofs.Stores.{Left, left-all, left-turn}
 use Rattle.lemmas.specs.Bytes.{AllBytes, bytes_of, number_from}
-use Rattle.lemmas.proofs.Bytes.{number-below, all-bytes, take-bytes, drop-bytes}
+use Rattle.lemmas.proofs.Bytes.{all-bytes, drop-bytes}
 use Rattle.file_form.specs.Parsed.{Parsed, stop, next, and_then, refuse_if, checked}
-use Rattle.file_form.specs.Fields.{bit, spelled, Fit, part_size, field_bytes, take_number, field, take_fields}
+use Rattle.file_form.specs.Fields.{bit, spelled, Fit, field_bytes, take_number, field, take_fields}
 use Rattle.file_form.specs.Header.{sizes, values_of, settings_from, defaults, map_of, map_checks}
 use Rattle.file_form.specs.Reader.{take_byte, fitting, read_fields, settings_after_map, read_header}
-use Rattle.refusals.specs.Checks.{first_met, number_of}
-use Rattle.refusals.proofs.Cursor.{number-met, number_passed}
+use Rattle.refusals.specs.Checks.{first_met}
 use Rattle.index.specs.declared.Settings.{Settings}
 use Rattle.file_form.specs.Writer.{header}
 use Rattle.file_form.proofs.Laws.{header-laws, in_front, in-front-append}
-use Rattle.file_header.specs.declared.Number.{Number}
 use Rattle.file_header.specs.Answers.{HeaderPut}
+use Rattle.std.specs.Prelude.{Some, None, Option as Found}
 use Rattle.file_header.specs.Internal.{number_is}
 
 -- ── written ──
--- one byte more of a number
-module _ (out : List ℕ) (at end x : ℕ) where
-  pub byte_put : at < end → sets (set out at (x % 256)) (at + 1) (bytes_of (end - (at + 1)) (x / 256)) ≡ sets out at (bytes_of (end - at) x)
-  byte_put h =
-      let e : end - at ≡ suc (end - suc at) = omega arith in
-      rw (add-one at, e) refl
+-- a field of so many bytes, where its bit stands
+pub times-bit : (b : Bool) (n : ℕ) → n * bool_byte b ≡ cond b n 0
+times-bit true n = omega arith
+times-bit false n = omega arith
 
-  pub bytes-put : end ≤ at → out ≡ sets out at (bytes_of (end - at) x)
-  bytes-put h =
-      let e : end - at ≡ 0 = omega arith in
-      rw e refl
+-- each of these sizes is 8 at most
+abbrev pub all_small : List ℕ → Bool
+all_small [] = true
+all_small (n ∷ l) = leb n 8 && all_small l
+
+pub small-at : (l : List ℕ) (i : ℕ) → all_small l ≡ true → get_or l i 0 ≤ 8
+small-at [] i e = omega arith
+small-at (n ∷ l) i e = go i (leb n 8) refl e (λ j f. small-at l j f)
+  where
+    go : (i : ℕ) (b : Bool) → leb n 8 ≡ b → (b && all_small l) ≡ true → ((j : ℕ) → all_small l ≡ true → get_or l j 0 ≤ 8) → get_or (n ∷ l) i 0 ≤ 8
+    go i false q f h = cc
+    go zero true q f h = leb-true n 8 q
+    go (suc i) true q f h = h i f
+
+-- a field's, where it stands
+pub field_size : {k n : ℕ} (b : Bool) → n ≤ 8 → k ≡ bool_byte b → n * k ≤ 8
+field_size {k} {n} b h e = go b e
+  where
+    go : (t : Bool) → k ≡ bool_byte t → n * k ≤ 8
+    go true e = rw e (omega arith)
+    go false e = rw e (omega arith)
 
 -- one field more
-pub fields-step : (ns : List ℕ) (m : ℕ) (vs : List ℕ) (i n : ℕ) → length vs ≡ length ns → i < length ns → n ≡ part_size m (get_or ns i 0)
-    → field_bytes (drop i ns) m (drop i vs) ≡ bytes_of n (get_or vs i 0) ++ field_bytes (drop (i + 1) ns) (m / 2) (drop (i + 1) vs)
-fields-step ns m vs i n e h k =
+pub field-next : {k : ℕ} (vs : List ℕ) (m i : ℕ) → length vs ≡ 5 → i < 5 → k ≡ bool_byte (bit 0 m)
+    → field_bytes (drop i sizes) m (drop i vs) ≡ bytes_of (get_or sizes i 0 * k) (get_or vs i 0) ++ field_bytes (drop (i + 1) sizes) (m / 2) (drop (i + 1) vs)
+field-next {k} vs m i e h f =
     let g : i < length vs = omega arith in
-    rw (k, add-one, drop-cons ns i 0, drop-cons vs i 0) refl
+    let n = ap (λ (j : ℕ). get_or sizes i 0 * j) f ∙ times-bit (bit 0 m) (get_or sizes i 0) in
+    rw (n, add-one, drop-cons sizes i 0 h, drop-cons vs i 0 g) refl
 
-pub fields-end : (ns : List ℕ) (m : ℕ) (vs : List ℕ) (i : ℕ) → length ns ≤ i → field_bytes (drop i ns) m (drop i vs) ≡ []
-fields-end ns m vs i h = ap (λ (l : List ℕ). field_bytes l m (drop i vs)) (drop_of_length-le ns h)
-
--- the map, and the fields behind it
-pub header-parts : (s : Settings) (ns : List ℕ) (b m : ℕ) (vs : List ℕ) → ns ≡ sizes → b ≡ map_of s → m ≡ b → vs ≡ values_of s → header s ≡ (b ∷ []) ++ field_bytes ns m vs
+-- behind the map, which is stored, all fields are left
+pub header-left : (s : Settings) (o : List ℕ) {b : ℕ} {vs : List ℕ} → b ≡ map_of s → vs ≡ values_of s → Left o (set o 0 b) 0 1 (header s) (field_bytes sizes b vs)
 unfolding header
-header-parts s ns b m vs e f g h = rw (g, f, h, e) refl
+header-left s o {b} {vs} e f = left-turn (left-all o 0 (header s)) _ first (parts ∙ ap₂ (λ (m : ℕ) (l : List ℕ). (m ∷ []) ++ field_bytes sizes m l) (sym e) (sym f))
+  where
+    first : Put o (set o 0 b) 0 (b ∷ []) 1
+    first = record { output = refl; place = refl }
+
+    parts : header s ≡ (map_of s ∷ []) ++ field_bytes sizes (map_of s) (values_of s)
+    parts = refl
 
 -- an output that has no room for the header, and one that has
 module _ (s : Settings) (o : List ℕ) where
@@ -70,24 +89,6 @@ module _ (s : Settings) (o : List ℕ) where
 
 -- ── read ──
 module _ (l : List ℕ) where
-  pub number_step : (end i j : ℕ) → i + 1 ≡ j → j ≤ end → i < length l → get_or l i 0 + 256 * number_from (take (end - j) (drop j l)) ≡ number_from (take (end - i) (drop i l))
-  number_step end i j e h k =
-      let n : end - i ≡ suc (end - j) = omega arith in
-      let s : j ≡ suc i = omega arith in
-      rw (n, drop-cons l i 0, s) refl
-
-  pub number-of-none : (end i : ℕ) → end ≤ i → 0 ≡ number_from (take (end - i) (drop i l))
-  number-of-none end i h =
-      let e : end - i ≡ 0 = omega arith in
-      rw e refl
-
-  -- seven bytes leave room for one more
-  pub number-low : (k i : ℕ) → k ≤ 7 → ((x : ℕ) → get_or l x 0 < 256) → number_from (take k (drop i l)) < 2 ^ 56
-  number-low k i h b =
-      let some = take k (drop i l) in
-      let few : length some ≤ 7 = omega (arith, length-take k (drop i l)) in
-      omega (arith, number-below some (take-bytes k (drop i l) (drop-bytes i l (all-bytes l b))), pow_mono {i = 8 * length some} {j = 56} (omega arith))
-
   module _ (at n : ℕ) where
     pub number_short : length l - at < n → take_number n (drop at l) ≡ stop 11
     number_short h = ap (λ (t : Bool). cond t (next (number_from (take n (drop at l))) (drop n (drop at l))) (stop 11)) (lt-leb n (length (drop at l)) (omega (arith, length-drop at l)))
@@ -141,30 +142,22 @@ module _ (l : List ℕ) where
           let e : b + 256 * 0 ≡ b = omega arith in
           sym (ap (λ (t : Bool). cond t (next (b + 256 * 0) rest) (stop 11)) (le-leb 1 (suc (length rest)) (omega arith)) ∙ ap (λ (x : ℕ). next x rest) e)
 
-  module _ {n : Number} (q : number_is l n ≡ take_number 1 l) where
-    pub map_read : {v at : ℕ} → n ≡ Number.Value v at → read_header l ≡ settings_after_map v (drop at l)
+  module _ {n : Found (ℕ × ℕ)} (q : number_is l n ≡ take_number 1 l) where
+    pub map_read : {v at : ℕ} → n ≡ Some (v, at) → read_header l ≡ settings_after_map v (drop at l)
     map_read t = by_number ∙ ap (λ (p : Parsed ℕ). and_then p settings_after_map) (sym q ∙ ap (number_is l) t)
 
-    pub map-short : n ≡ Number.Short → stop 11 ≡ read_header l
+    pub map-short : n ≡ None → stop 11 ≡ read_header l
     map-short t = sym (by_number ∙ ap (λ (p : Parsed ℕ). and_then p settings_after_map) (sym q ∙ ap (number_is l) t))
 
 -- the map is tested, and the fields follow
-module _ (m : ℕ) (rest : List ℕ) {n : ℕ} (e : n ≡ number_of (first_met (map_checks m))) where
-  pub map-refused : n ≢ 0 → stop n ≡ settings_after_map m rest
+module _ (m : ℕ) (rest : List ℕ) where
+  pub map-refused : {n : ℕ} → some n ≡ first_met (map_checks m) → stop n ≡ settings_after_map m rest
   unfolding settings_after_map
-  map-refused h = sym (ap (λ (o : Option ℕ). checked o (read_fields m rest)) (number-met (map_checks m) e h))
+  map-refused e = ap (λ (o : Option ℕ). checked o (read_fields m rest)) e
 
-  module _ (h : n ≡ 0) where
-    pub map-passed : first_met (map_checks m) ≡ none
-    map-passed = number_passed (map_checks m) e (header-laws.numbered m) h
-
-    pub map-onward : read_fields m rest ≡ settings_after_map m rest
-    unfolding settings_after_map
-    map-onward = sym (ap (λ (o : Option ℕ). checked o (read_fields m rest)) map-passed)
-
--- the sizes and the defaults are lent
-pub fields_lent : (m : ℕ) (rest ns ds : List ℕ) → ns ≡ sizes → ds ≡ defaults → take_fields ns m ds rest ≡ take_fields sizes m defaults rest
-fields_lent m rest ns ds e h = ap₂ (λ (a b : List ℕ). take_fields a m b rest) e h
+  pub map-onward : none ≡ first_met (map_checks m) → read_fields m rest ≡ settings_after_map m rest
+  unfolding settings_after_map
+  map-onward e = ap (λ (o : Option ℕ). checked o (read_fields m rest)) e
 
 pub fields-short : (m : ℕ) (rest : List ℕ) → stop 11 ≡ take_fields sizes m defaults rest → stop 11 ≡ read_fields m rest
 unfolding read_fields
@@ -175,6 +168,20 @@ pub record Taken (m : ℕ) (rest vs end : List ℕ) : Type 0 where
   pub passed : first_met (map_checks m) ≡ none
   pub bytes : AllBytes rest
   pub read : next vs end ≡ take_fields sizes m defaults rest
+
+-- the values so far, continued by what the fields from i on give, are what all fields give
+pub record Upto (l : List ℕ) (map from m i at : ℕ) (vs : List ℕ) : Type 0 where
+  pub is : in_front (take i vs) (take_fields (drop i sizes) m (drop i vs) (drop at l)) ≡ take_fields sizes map defaults (drop from l)
+  pub long : length vs ≡ 5
+  pub inside : at ≤ length l
+
+pub taken : {l : List ℕ} {map from m i at : ℕ} {vs : List ℕ} → Upto l map from m i at vs → first_met (map_checks map) ≡ none → ((x : ℕ) → get_or l x 0 < 256) → 5 ≤ i
+    → Taken map (drop from l) vs (drop at l)
+taken {l} {map} {from} {m} {i} {at} {vs} U p b h = record {
+  passed = p;
+  bytes = drop-bytes from l (all-bytes l b);
+  read = fields-done sizes m vs i (drop at l) U.long h ∙ U.is;
+}
 
 module _ {m : ℕ} {rest vs end : List ℕ} (t : Taken m rest vs end) where
   pub values-fit : Fit sizes (spelled (length sizes) (λ i. get_or vs i 0))

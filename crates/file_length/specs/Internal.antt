@@ -1,11 +1,10 @@
--- The contract of the pass over the cells.
+-- The contract of the passes over the cells.
 -- Assumes nothing.
-use Rattle.std.specs.Prelude.{◌≡◌, true, false, List, ℕ, ◌^◌, length}
+use Rattle.std.specs.Prelude.{◌≡◌, List, ℕ, ◌≤◌, leb}
+use Rattle.calls.specs.Cells.{filled_count}
 use Rattle.calls.specs.WrittenForms.{any_from}
-use Rattle.file_form.specs.Writer.{body}
-use Rattle.file_length.specs.declared.Size.{Size}
 
--- the bytes of the buckets, where no cell is too wide
-abbrev pub Sized : ℕ → List ℕ → Size → Type 0
-Sized w c (Size.Bytes n) = (any_from (2 ^ w) c ≡ false) × (n ≡ length (body c))
-Sized w c Size.TooWide = any_from (2 ^ w) c ≡ true
+-- the largest cell, by which all limits are told, and how many cells are filled
+pub record Seen (c : List ℕ) (r : ℕ × ℕ) : Type 0 where
+  pub top : (n : ℕ) → 1 ≤ n → any_from n c ≡ leb n r.0
+  pub filled : r.1 ≡ filled_count c

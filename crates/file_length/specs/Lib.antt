@@ -1,3 +1,2 @@
--- What the call answers, and the contract of the pass inside.
-pub mod Answers
+-- The contract of the passes inside.
 pub mod Internal

@@ -1,6 +1,5 @@
 -- What the crate's contracts cite. Each is an `abbrev`, so that a caller's proof can use what it says. Assumes nothing.
-use Rattle.std.specs.Prelude.{ℕ, zero, suc, ℤ, pos, negsuc, Option, None, Some, ◌<◌, ◌≡◌, true, false, nat_lt, if◌then◌else◌, List, length, get_or}
-use Rattle.filestat.specs.declared.Stat.{Stat}
+use Rattle.std.specs.Prelude.{ℕ, zero, suc, ℤ, pos, negsuc, Option, None, Some, ◌<◌, ◌≡◌, nat_lt, if◌then◌else◌, List, length, get_or}
 use Rattle.filestat.specs.declared.FileStatus.{FileStatus}
 
 -- no byte is 0
@@ -22,10 +21,6 @@ number_told (Some (pos zero)) = pos 5
 number_told (Some (pos (suc n))) = pos (suc n)
 number_told (Some (negsuc n)) = negsuc n
 
--- what is told of the file that st describes
-abbrev pub Tells : Stat → FileStatus → Type 0
-Tells st r = (r.found ≡ true) × ((r.mode ≡ st.st_mode) × ((r.owner ≡ st.st_uid) × (r.group ≡ st.st_gid)))
-
--- nothing is told
-abbrev pub Silent : FileStatus → Type 0
-Silent r = (r.found ≡ false) × ((r.mode ≡ 0) × ((r.owner ≡ 0) × (r.group ≡ 0)))
+-- what is told of a file with such a mode and such owners
+abbrev pub Tells : ℕ → ℕ → ℕ → FileStatus → Type 0
+Tells mode owner group r = (r.mode ≡ mode) × (r.owner ≡ owner) × (r.group ≡ group)

@@ -1,11 +1,11 @@
 // What stands at a path: its kind, its rights, its owner and its group.
 #![tactic(auto)]
 
-ghost use Rattle.std.specs.Prelude.{◌≡◌, ◌≢◌, true, false, pos, length, IfOk, IfErr};
+ghost use Rattle.std.specs.Prelude.{◌≡◌, ◌≢◌, pos, length, Some, IfOk, IfErr, IsErr};
 ghost use Rattle.std.specs.Fs.{metadata_mode};
 ghost use Rattle.std.specs.IoError.{raw_os_error};
 ghost use Rattle.std.specs.Str.{IsUtf8};
-ghost use Rattle.filestat.specs.Tells.{NoZero, IsPath, path_error, number_told, Tells, Silent};
+ghost use Rattle.filestat.specs.Tells.{IsPath, path_error, number_told, Tells};
 
 use std::fs::{Metadata, symlink_metadata};
 use std::io;
@@ -16,112 +16,59 @@ use std::rt::Files;
 const PATH_MAX: usize = 4096;
 
 // The system's numbers of errors that are told without asking it.
-const EIO: i32 = 5;
+pub const EIO: i32 = 5;
 
-const EINVAL: i32 = 22;
+pub const EINVAL: i32 = 22;
 
-const ENAMETOOLONG: i32 = 36;
+pub const ENAMETOOLONG: i32 = 36;
 
-#[derive(Clone, Copy)]
+// What the system says of a file, as far as it is told on.
+#[derive(Clone, Copy, Debug, PartialEq, Eq)]
 pub struct FileStatus {
-    // Whether the system told of it. Where it did not, error says why, and the rest is 0.
-    pub found: bool,
     // Its rights in the low 12 bits, and its kind above them.
     pub mode: u32,
     // The numbers of the user and of the group that own it.
     pub owner: u32,
     pub group: u32,
-    // 0, or the number of the error, as 2 where there is no such file.
-    pub error: i32,
-}
-
-// What the system says of a file, as far as it is told on.
-#[derive(Clone, Copy)]
-struct Stat {
-    st_mode: u32,
-    st_uid: u32,
-    st_gid: u32,
 }
 
 // What stands at the path. Of a link it tells of the link itself, and nothing is opened, so a pipe
 // or a device is left alone. A path that is too long, that has a byte 0, or that is no text in UTF-8,
 // is not found.
-pub fn status(files: &impl Files, path: &[u8]) -> FileStatus
-    ensures silent { result.found ≡ false → Silent result }
-    ensures silent_2 { (IsPath path.now → ⊥) → Silent result }
+pub fn status(files: &impl Files, path: &[u8]) -> io::Result<FileStatus>
+    ensures { (IsPath path.now → ⊥) → IsErr result }
 {
-    match path_text(path) {
-        Ok(text) => at_path(files, text),
-        Err(error) => missing(error),
-    }
+    let metadata = symlink_metadata(files, path_text(path)?)?;
+    Ok(status_of(&metadata))
 }
 
-// The path as the system takes it, or the number of the error. All of it can be handed to C, with a 0
-// at its end.
-pub fn path_text(path: &[u8]) -> Result<&str, i32>
+// The path as the system takes it, or the error. All of it can be handed to C, with a 0 at its end.
+pub fn path_text(path: &[u8]) -> io::Result<&str>
     ensures whole { IfOk result (λ text. text.now ≡ path.now) }
     ensures is_path { IfOk result (λ text. IsPath text.now) }
     ensures none_lost { IfErr result (λ error. IsPath path.now → IsUtf8 path.now → ⊥) }
-    ensures number { IfErr result (λ error. error ≡ path_error (length path.now)) }
+    ensures number { IfErr result (λ error. raw_os_error error ≡ Some (path_error (length path.now))) }
 {
     if path.len() >= PATH_MAX {
-        return Err(ENAMETOOLONG);
+        return Err(io::Error::from_raw_os_error(ENAMETOOLONG));
     }
-    if has_zero(path) {
-        return Err(EINVAL);
+    if path.contains(&0) {
+        return Err(io::Error::from_raw_os_error(EINVAL));
     }
-    match str::from_utf8(path) {
-        Ok(text) => Ok(text),
-        Err(_) => Err(EINVAL),
-    }
+    str::from_utf8(path).map_err(|_| io::Error::from_raw_os_error(EINVAL))
 }
 
-fn at_path(files: &impl Files, path: &str) -> FileStatus
-    ensures { result.found ≡ false → Silent result }
+fn status_of(m: &Metadata) -> FileStatus
+    ensures { result.mode ≡ metadata_mode m.now }
 {
-    match symlink_metadata(files, path) {
-        Ok(m) => told(Ok(stat_of(&m))),
-        Err(e) => told(Err(error_number(&e))),
-    }
+    told(m.mode(), m.uid(), m.gid())
 }
 
-fn stat_of(m: &Metadata) -> Stat
-    ensures { result.st_mode ≡ metadata_mode m.now }
+// The numbers in their places: the system's contract says nothing of an owner and a group.
+fn told(mode: u32, owner: u32, group: u32) -> FileStatus
+    ensures { Tells mode owner group result }
 {
-    Stat {
-        st_mode: m.mode(),
-        st_uid: m.uid(),
-        st_gid: m.gid(),
-    }
-}
-
-// What the call answered: what it says of the file, or its error.
-fn told(got: Result<Stat, i32>) -> FileStatus
-    ensures tells { IfOk got (λ st. Tells st result) }
-    ensures silent { IfErr got (λ error. Silent result × (result.error ≡ error)) }
-{
-    match got {
-        Ok(st) => FileStatus {
-            found: true,
-            mode: st.st_mode,
-            owner: st.st_uid,
-            group: st.st_gid,
-            error: 0,
-        },
-        Err(error) => missing(error),
-    }
-}
-
-fn missing(error: i32) -> FileStatus
-    ensures { Silent result × (result.error ≡ error) }
-{
-    FileStatus {
-        found: false,
-        mode: 0,
-        owner: 0,
-        group: 0,
-        error: error,
-    }
+    FileStatus { mode, owner, group }
 }
 
 // The system's number of an error. One that it gave no number counts as a failure of the disk.
@@ -133,18 +80,4 @@ pub fn error_number(e: &io::Error) -> i32
         Some(number) if number != 0 => number,
         _ => EIO,
     }
-}
-
-fn has_zero(path: &[u8]) -> bool
-    ensures none { result ≡ false → NoZero path.now }
-    ensures found { result ≡ true → NoZero path.now → ⊥ }
-{
-    let mut i = 0;
-    while i < path.len() {
-        if path[i] == 0 {
-            return true;
-        }
-        i += 1;
-    }
-    false
 }

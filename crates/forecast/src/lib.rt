@@ -7,14 +7,8 @@ ghost use Rattle.table.specs.Scratch.{path_in, Sparse};
 ghost use Rattle.forecast.specs.Forecasts.{Forecasts};
 
 use index::Settings;
-use table::{HoldAnswer, ProbeAnswer};
-
-// The entry that a word of the queue was reached from.
-fn parent(word: u32) -> usize
-    ensures { result ≡ word / 65536 }
-{
-    (word / 65536) as usize
-}
+use refusals::Refusal;
+use table::Placement;
 
 // How many entries move on the path of entry last of the queue.
 fn path_moves(scratch: &[u32], m: usize, roots: usize, last: usize) -> u32
@@ -25,28 +19,24 @@ fn path_moves(scratch: &[u32], m: usize, roots: usize, last: usize) -> u32
     let mut at = last;
     let mut moves = 0;
     while at >= roots {
-        at = parent(scratch[at]);
+        at = scratch[at] as usize / 65536;
         moves += 1;
     }
     moves
 }
 
-// The answer that a hold of the tag would give. No cell is changed, and scratch is what a hold may make of it.
-pub fn forecast(s: Settings, table: &[u16], scratch: &mut [u32], tag: &[u8]) -> HoldAnswer
+// The answer that a hold of the tag would give: how many entries would move. No cell is changed, and scratch is what a hold may make of it.
+pub fn forecast(s: Settings, table: &[u16], scratch: &mut [u32], tag: &[u8]) -> Result<u32, Refusal>
     ensures { Forecasts result s table.now table.now scratch.old scratch.new tag.now }
 {
-    match table::probe(s, table, scratch, tag) {
-        ProbeAnswer::Refused(n) => HoldAnswer::Refused(n),
-        ProbeAnswer::Free { print: _, cell: _ } => HoldAnswer::Accepted(0),
-        ProbeAnswer::Path {
-            print: _,
-            cell: _,
+    match table::probe(s, table, scratch, tag)? {
+        Placement::Free { .. } => Ok(0),
+        Placement::Path { roots, last, .. } => Ok(path_moves(
+            scratch,
+            s.buckets as usize,
             roots,
             last,
-        } => {
-            let m = s.buckets as usize;
-            HoldAnswer::Accepted(path_moves(scratch, m, roots, last))
-        }
-        ProbeAnswer::Exhausted(_) => HoldAnswer::Refused(9),
+        )),
+        Placement::Exhausted(_) => Err(Refusal::Full),
     }
 }

@@ -1,404 +1,329 @@
 // The list in memory: each command's call, and its answer.
-ghost use Rattle.std.specs.Prelude.{◌≤◌, length};
+ghost use Rattle.std.specs.Prelude.{◌≤◌, length, IfSome};
 
-use super::State;
-use super::files::Stored;
-use super::tell::{
-    Log, accepted, bad, failed, found, print, print_cells, print_entries, print_number,
-    print_settings, print_with, refused,
-};
-use file_header::ReadAnswer;
-use file_length::LengthAnswer;
-use holdfile::WriteAnswer;
+use super::errors::Cause;
+use super::files;
+use super::tell::{Count, Log, Shown};
 use index::Settings;
-use packed::{PackAnswer, UnpackAnswer};
-use table::{ClearAnswer, HoldAnswer, LookupAnswer, ReleaseAnswer};
-use typed_tags::TagAnswer;
+use programs::Spaced;
+use refusals::Refusal;
+use table::Removal;
+use typed_tags::TagError;
 
-// ── what is kept ──
-
-// A list of these settings, begun anew.
-fn with_settings(state: State, settings: Settings) -> State {
-    super::state_of(settings, 0, state.line, false)
+// One list, what is kept of it from line to line, and the space that its files are read to and written
+// from: its settings, its longest relocation, and whether a list that should have been read was not.
+// With it goes the log, to which every command answers. Where a method lends two fields at once it lends both
+// as `&mut`, also one that is only read: other loans of two fields have no rule in the check yet.
+#[derive(Drop)]
+pub(crate) struct Session<'a> {
+    pub(crate) log: Log,
+    settings: Settings,
+    longest: u32,
+    lost: bool,
+    // the rest of a line that is too long is still to come
+    pub(crate) skipping: bool,
+    cells: &'a mut [u16],
+    words: &'a mut [u32],
+    space: &'a mut [u8],
 }
-
-fn with_moves(state: State, moves: u32) -> State {
-    let longest = commands::longest(state.longest, moves);
-    super::state_of(state.settings, longest, state.line, state.lost)
-}
-
-// The list could not be read: what is in memory is not what a file of that name should get.
-fn without_list(state: State) -> State {
-    super::state_of(state.settings, state.longest, state.line, true)
-}
-
-// ── parts of buffers ──
 
 // How many cells a list of these settings has, if there are as many.
 fn lent(s: Settings, cells: &[u16]) -> usize
     ensures { result ≤ length cells.now }
 {
-    let n = 4 * (s.buckets as usize);
-    if n < cells.len() { n } else { cells.len() }
-}
-
-// ── tags ──
-
-// The tag that was typed, to the start of space, and its length. 0 where there is none, which is then
-// answered.
-fn typed(log: &mut Log, line: u64, text: &[u8], space: &mut [u8; 64]) -> usize
-    ensures { result ≤ length space.new }
-{
-    match typed_tags::tag(text, space) {
-        TagAnswer::Is(n) => n,
-        TagAnswer::Refused(k) => {
-            refused(log, k);
-            0
-        }
-        TagAnswer::NotHex => {
-            bad(
-                log,
-                line,
-                b"what stands after 0x is not pairs of hexadecimal digits\n",
-            );
-            0
-        }
-    }
-}
-
-fn hold_tag(
-    log: &mut Log,
-    state: State,
-    cells: &mut [u16],
-    words: &mut [u32],
-    tag: &[u8],
-) -> State {
-    match table::hold(state.settings, cells, words, tag) {
-        HoldAnswer::Refused(k) => {
-            refused(log, k);
-            state
-        }
-        HoldAnswer::Accepted(moves) => {
-            accepted(log, moves);
-            with_moves(state, moves)
-        }
-    }
-}
-
-pub(crate) fn hold(
-    log: &mut Log,
-    state: State,
-    text: &[u8],
-    cells: &mut [u16],
-    words: &mut [u32],
-) -> State {
-    let mut space = [0u8; 64];
-    let n = typed(log, state.line, text, &mut space);
-    if n == 0 {
-        return state;
-    }
-    let c = lent(state.settings, cells);
-    hold_tag(log, state, &mut cells[..c], words, &space[..n])
-}
-
-fn release_tag(log: &mut Log, s: Settings, cells: &mut [u16], tag: &[u8]) {
-    match table::release(s, cells, tag) {
-        ReleaseAnswer::Refused(k) => refused(log, k),
-        ReleaseAnswer::Released => print(log, b"released\n"),
-        ReleaseAnswer::Absent => print(log, b"absent\n"),
-    }
-}
-
-pub(crate) fn release(log: &mut Log, state: State, text: &[u8], cells: &mut [u16]) {
-    let mut space = [0u8; 64];
-    let n = typed(log, state.line, text, &mut space);
-    if n == 0 {
-        return;
-    }
-    let c = lent(state.settings, cells);
-    release_tag(log, state.settings, &mut cells[..c], &space[..n]);
-}
-
-fn lookup_tag(log: &mut Log, s: Settings, cells: &[u16], tag: &[u8]) {
-    match table::lookup(s, cells, tag) {
-        LookupAnswer::Refused(k) => refused(log, k),
-        LookupAnswer::Copies(n) => found(log, n),
-    }
-}
-
-pub(crate) fn lookup(log: &mut Log, state: State, text: &[u8], cells: &[u16]) {
-    let mut space = [0u8; 64];
-    let n = typed(log, state.line, text, &mut space);
-    if n == 0 {
-        return;
-    }
-    let c = lent(state.settings, cells);
-    lookup_tag(log, state.settings, &cells[..c], &space[..n]);
-}
-
-fn forecast_tag(log: &mut Log, s: Settings, cells: &[u16], words: &mut [u32], tag: &[u8]) {
-    match forecast::forecast(s, cells, words, tag) {
-        HoldAnswer::Refused(k) => refused(log, k),
-        HoldAnswer::Accepted(moves) => {
-            print(log, b"would be ");
-            accepted(log, moves);
-        }
-    }
-}
-
-// What a hold of the tag would answer, by the same words.
-pub(crate) fn forecast(log: &mut Log, state: State, text: &[u8], cells: &[u16], words: &mut [u32]) {
-    let mut space = [0u8; 64];
-    let n = typed(log, state.line, text, &mut space);
-    if n == 0 {
-        return;
-    }
-    let c = lent(state.settings, cells);
-    forecast_tag(log, state.settings, &cells[..c], words, &space[..n]);
-}
-
-// ── the list as a whole ──
-
-fn view_lent(log: &mut Log, s: Settings, cells: &[u16], bucket: u32) {
-    let n = bucket_view::view_check(s, cells, bucket);
-    if n != 0 {
-        refused(log, n);
-        return;
-    }
-    print_with(log, b"bucket ", bucket as u64, b":");
-    print_cells(log, bucket_view::view(s, cells, bucket));
-    print(log, b"\n");
-}
-
-pub(crate) fn view(log: &mut Log, s: Settings, cells: &[u16], bucket: u32) {
-    let c = lent(s, cells);
-    view_lent(log, s, &cells[..c], bucket);
-}
-
-// A list of these settings with nothing in it.
-fn begin_list(log: &mut Log, state: State, s: Settings, cells: &mut [u16]) -> State {
-    match table::clear(s, cells) {
-        ClearAnswer::Refused(k) => {
-            refused(log, k);
-            state
-        }
-        ClearAnswer::Cleared => {
-            print(log, b"cleared\n");
-            with_settings(state, s)
-        }
-    }
-}
-
-pub(crate) fn set(log: &mut Log, state: State, s: Settings, cells: &mut [u16]) -> State {
-    let c = lent(s, cells);
-    begin_list(log, state, s, &mut cells[..c])
+    (4 * s.buckets as usize).min(cells.len())
 }
 
 fn to_u32(n: usize) -> u32 {
-    if n > 4294967295 { 4294967295 } else { n as u32 }
+    u32::try_from(n).unwrap_or(u32::MAX)
 }
 
-fn print_stats(log: &mut Log, state: State, cells: &[u16]) {
-    let buckets = state.settings.buckets;
-    let entries = table::filled(cells);
-    print_with(log, b"entries ", entries as u64, b", buckets ");
-    print_number(log, buckets as u64);
-    let load = commands::permille(to_u32(entries), to_u32(cells.len())) as u64;
-    print_with(log, b", load ", load / 10, b".");
-    print_with(log, b"", load % 10, b" %, longest relocation ");
-    print_with(log, b"", state.longest as u64, b"\n");
+// The list of a hold file, its settings, and how many entries it has.
+fn read_file(_s: Settings, bytes: &[u8], cells: &mut [u16]) -> Result<(Settings, usize), Refusal> {
+    let s = file_header::settings_of(bytes)?;
+    let n = lent(s, cells);
+    let part = &mut cells[..n];
+    let s = holdfile::read(bytes, part)?;
+    Ok((s, table::filled(part)))
 }
 
-pub(crate) fn stats(log: &mut Log, state: State, cells: &[u16]) {
-    let c = lent(state.settings, cells);
-    print_stats(log, state, &cells[..c]);
+// The same of a packed form, whose settings have to be known.
+fn read_packed(s: Settings, bytes: &[u8], cells: &mut [u16]) -> Result<(Settings, usize), Refusal> {
+    let n = lent(s, cells);
+    let count = packed::read(s, bytes, &mut cells[..n])?;
+    Ok((s, count))
 }
 
-// ── files ──
-
-// The bytes that save would write.
-pub(crate) fn length(log: &mut Log, state: State, cells: &[u16]) {
-    let c = lent(state.settings, cells);
-    match file_length::file_length(state.settings, &cells[..c]) {
-        LengthAnswer::Refused(k) => refused(log, k),
-        LengthAnswer::Bytes(count) => print_with(log, b"", count as u64, b" bytes\n"),
-    }
-}
-
-// What became of a file that was to be written.
-fn stored(log: &mut Log, line: u64, what: &[u8], name: &[u8], count: usize, end: Stored) {
-    match end {
-        Stored::Whole => print_with(log, what, count as u64, b" bytes\n"),
-        Stored::Failed(error) => failed(log, line, b"cannot write ", name, error),
-        Stored::Rights(error) => failed(
+impl<'a> Session<'a> {
+    pub(crate) fn new(
+        log: Log,
+        cells: &'a mut [u16],
+        words: &'a mut [u32],
+        space: &'a mut [u8],
+    ) -> Session<'a> {
+        Session {
             log,
-            line,
-            b"cannot keep owner and rights of ",
-            name,
-            error,
-        ),
-        Stored::Link => {
-            bad(log, line, b"cannot write ");
-            print(log, name);
-            print(
-                log,
-                b": it is a link; give the name of the file that it leads to\n",
+            settings: Settings::defaults(),
+            longest: 0,
+            lost: false,
+            skipping: false,
+            cells,
+            words,
+            space,
+        }
+    }
+
+    // ── tags ──
+
+    // What a call on the tag that was typed answers. A text that is no tag is answered, and so is a call
+    // that is refused.
+    fn call<T, F: FnOnce(Settings, &mut [u16], &mut [u32], &[u8]) -> Result<T, Refusal>>(
+        &mut self,
+        text: &[u8],
+        call: F,
+    ) -> Option<T>
+        requires { F.IsAlwaysCallable call }
+    {
+        let mut space = [0u8; 64];
+        let length = match typed_tags::tag(text, &mut space) {
+            Ok(length) => length,
+            Err(TagError::Refused(why)) => {
+                self.log.refused(why);
+                return None;
+            }
+            Err(why) => {
+                self.log.bad(why);
+                return None;
+            }
+        };
+        let settings = self.settings;
+        let n = lent(settings, self.cells);
+        let cells = &mut self.cells[..n];
+        match call(settings, cells, self.words, &space[..length]) {
+            Ok(answer) => Some(answer),
+            Err(why) => {
+                self.log.refused(why);
+                None
+            }
+        }
+    }
+
+    pub(crate) fn hold(&mut self, text: &[u8]) {
+        if let Some(moves) = self.call(
+            text,
+            |s, cells, words, tag| table::hold(s, cells, words, tag),
+        ) {
+            self.log
+                .print(format_args!("accepted, {}\n", Count::moves(moves)));
+            self.longest = commands::longest(self.longest, moves);
+        }
+    }
+
+    pub(crate) fn release(&mut self, text: &[u8]) {
+        match self.call(text, |s, cells, _, tag| table::release(s, cells, tag)) {
+            Some(Removal::Released) => self.log.print("released\n"),
+            Some(Removal::Absent) => self.log.print("absent\n"),
+            None => {}
+        }
+    }
+
+    // One release takes one order off, so that their number is told.
+    pub(crate) fn lookup(&mut self, text: &[u8]) {
+        match self.call(text, |s, cells, _, tag| table::lookup(s, cells, tag)) {
+            Some(0) => self.log.print("clear\n"),
+            Some(copies) => self
+                .log
+                .print(format_args!("held, {}\n", Count::orders(copies))),
+            None => {}
+        }
+    }
+
+    // What a hold of the tag would answer, by the same words.
+    pub(crate) fn forecast(&mut self, text: &[u8]) {
+        if let Some(moves) = self.call(text, |s, cells, words, tag| {
+            forecast::forecast(s, cells, words, tag)
+        }) {
+            self.log.print(format_args!("would be accepted, {}\n", Count::moves(moves)));
+        }
+    }
+
+    // ── the list as a whole ──
+
+    pub(crate) fn view(&mut self, bucket: u32) {
+        let settings = self.settings;
+        let n = lent(settings, self.cells);
+        let table = &mut self.cells[..n];
+        let log = &mut self.log;
+        match bucket_view::view_check(settings, table, bucket) {
+            Ok(()) => {
+                let cells = Spaced(bucket_view::view(settings, table, bucket));
+                log.print(format_args!("bucket {bucket}: {cells}\n"));
+            }
+            Err(why) => log.refused(why),
+        }
+    }
+
+    // The list in memory is one of these settings, begun anew.
+    fn begin(&mut self, settings: Settings) {
+        self.settings = settings;
+        self.longest = 0;
+        self.lost = false;
+    }
+
+    // A list of these settings with nothing in it.
+    pub(crate) fn set(&mut self, settings: Settings) {
+        let n = lent(settings, self.cells);
+        match table::clear(settings, &mut self.cells[..n]) {
+            Ok(()) => {
+                self.log.print("cleared\n");
+                self.begin(settings);
+            }
+            Err(why) => self.log.refused(why),
+        }
+    }
+
+    pub(crate) fn clear(&mut self) {
+        self.set(self.settings);
+    }
+
+    pub(crate) fn tell_settings(&mut self) {
+        self.log.print(format_args!("{}\n", Shown(self.settings)));
+    }
+
+    pub(crate) fn stats(&mut self) {
+        let n = lent(self.settings, self.cells);
+        let entries = table::filled(&self.cells[..n]);
+        let buckets = self.settings.buckets;
+        let longest = self.longest;
+        let load = commands::permille(to_u32(entries), to_u32(n));
+        self.log.print(format_args!(
+            "entries {entries}, buckets {buckets}, load {}.{} %, longest relocation {longest}\n",
+            load / 10,
+            load % 10
+        ));
+    }
+
+    // ── files ──
+
+    // The bytes that save would write.
+    pub(crate) fn length(&mut self) {
+        let n = lent(self.settings, self.cells);
+        match file_length::file_length(self.settings, &self.cells[..n]) {
+            Ok(count) => self.log.print(format_args!("{count} bytes\n")),
+            Err(why) => self.log.refused(why),
+        }
+    }
+
+    // The list in one of the two forms, to the start of the space, and how many bytes that is.
+    fn formed<F: FnOnce(Settings, &[u16], &mut [u8]) -> Result<usize, Refusal>>(
+        &mut self,
+        form: F,
+    ) -> Result<usize, Refusal>
+        requires { F.IsAlwaysCallable form }
+    {
+        let settings = self.settings;
+        let n = lent(settings, self.cells);
+        let cells = &mut self.cells[..n];
+        form(settings, cells, self.space)
+    }
+
+    // Writes the list to a file in one of the two forms: not where the file that should have been read
+    // last was not.
+    fn write<F: FnOnce(Settings, &[u16], &mut [u8]) -> Result<usize, Refusal>>(
+        &mut self,
+        done: &str,
+        name: &[u8],
+        form: F,
+    )
+        requires { F.IsAlwaysCallable form }
+    {
+        if self.lost {
+            self.log.bad(
+                "not written: the last load or unpack failed, so this is not its list; after clear, settings or a good load or unpack it can be",
             );
+            return;
         }
-        Stored::Irregular => {
-            bad(log, line, b"cannot write ");
-            print(log, name);
-            print(log, b": it is no regular file\n");
-        }
-        Stored::Unforced(error) => failed(
-            log,
-            line,
-            b"written, but a power cut may undo it: cannot force to the disk the folder of ",
-            name,
-            error,
-        ),
-    }
-}
-
-// Keeps the first count bytes of space in a file.
-fn keep(log: &mut Log, line: u64, what: &[u8], name: &[u8], space: &[u8], count: usize) {
-    let n = super::files::least(count, space);
-    let end = super::files::store(log.rt, name, &space[..n]);
-    stored(log, line, what, name, n, end);
-}
-
-// Whether the list may be written: not where the file that should have been read last was not.
-fn may_write(log: &mut Log, state: State) -> bool {
-    if state.lost {
-        bad(
-            log,
-            state.line,
-            b"not written: the last load or unpack failed, so this is not its list; after clear, settings or a good load or unpack it can be\n",
-        );
-        return false;
-    }
-    true
-}
-
-pub(crate) fn save(log: &mut Log, state: State, name: &[u8], cells: &[u16], space: &mut [u8]) {
-    if !may_write(log, state) {
-        return;
-    }
-    let c = lent(state.settings, cells);
-    match holdfile::write(state.settings, &cells[..c], space) {
-        WriteAnswer::Refused(k) => refused(log, k),
-        WriteAnswer::Written(count) => keep(log, state.line, b"saved, ", name, space, count),
-    }
-}
-
-pub(crate) fn pack(log: &mut Log, state: State, name: &[u8], cells: &[u16], space: &mut [u8]) {
-    if !may_write(log, state) {
-        return;
-    }
-    let c = lent(state.settings, cells);
-    match packed::write(state.settings, &cells[..c], space) {
-        PackAnswer::Refused(k) => refused(log, k),
-        PackAnswer::Packed(count) => keep(log, state.line, b"packed, ", name, space, count),
-    }
-}
-
-// A hold file of a mask that splits no offset, written as one of the plain rule. The list has no part in it.
-fn convert_bytes(log: &mut Log, line: u64, bytes: &[u8], name: &[u8]) {
-    let mut out = super::file_space();
-    match file_convert::convert(bytes, &mut out) {
-        WriteAnswer::Refused(k) => refused(log, k),
-        WriteAnswer::Written(count) => keep(log, line, b"converted, ", name, &out, count),
-    }
-}
-
-pub(crate) fn convert(log: &mut Log, line: u64, from: &[u8], to: &[u8], space: &mut [u8]) {
-    let got = super::files::fetch(log.rt, from, space);
-    if got.error != 0 {
-        failed(log, line, b"cannot read ", from, got.error);
-        return;
-    }
-    let n = got.count;
-    convert_bytes(log, line, &space[..n], to);
-}
-
-fn loaded(log: &mut Log, s: Settings, cells: &[u16]) {
-    print(log, b"loaded, ");
-    print_entries(log, table::filled(cells));
-    print(log, b", ");
-    print_settings(log, s);
-}
-
-// The list of a hold file, with as many cells lent as the file names.
-fn load_lent(log: &mut Log, state: State, bytes: &[u8], cells: &mut [u16]) -> State {
-    match holdfile::read(bytes, cells) {
-        ReadAnswer::Refused(k) => {
-            refused(log, k);
-            without_list(state)
-        }
-        ReadAnswer::Read(s) => {
-            loaded(log, s, cells);
-            with_settings(state, s)
+        match self.formed(form) {
+            Ok(count) => {
+                let space = &mut self.space[..];
+                let log = &mut self.log;
+                log.store(done, name, space, count);
+            }
+            Err(why) => self.log.refused(why),
         }
     }
-}
 
-fn load_bytes(log: &mut Log, state: State, bytes: &[u8], cells: &mut [u16]) -> State {
-    match file_header::settings_of(bytes) {
-        ReadAnswer::Refused(k) => {
-            refused(log, k);
-            without_list(state)
-        }
-        ReadAnswer::Read(s) => {
-            let c = lent(s, cells);
-            load_lent(log, state, bytes, &mut cells[..c])
-        }
+    pub(crate) fn save(&mut self, name: &[u8]) {
+        self.write("saved", name, holdfile::write);
     }
-}
 
-pub(crate) fn load(
-    log: &mut Log,
-    state: State,
-    name: &[u8],
-    cells: &mut [u16],
-    space: &mut [u8],
-) -> State {
-    let got = super::files::fetch(log.rt, name, space);
-    if got.error != 0 {
-        failed(log, state.line, b"cannot read ", name, got.error);
-        return without_list(state);
+    pub(crate) fn pack(&mut self, name: &[u8]) {
+        self.write("packed", name, packed::write);
     }
-    let n = got.count;
-    load_bytes(log, state, &space[..n], cells)
-}
 
-fn unpack_lent(log: &mut Log, state: State, bytes: &[u8], cells: &mut [u16]) -> State {
-    match packed::read(state.settings, bytes, cells) {
-        UnpackAnswer::Refused(k) => {
-            refused(log, k);
-            without_list(state)
-        }
-        UnpackAnswer::Unpacked(count) => {
-            print(log, b"unpacked, ");
-            print_entries(log, count);
-            print(log, b"\n");
-            with_settings(state, state.settings)
+    // A file's bytes, to the start of the space, and how many they are. A file that cannot be read is
+    // answered.
+    fn fetch(&mut self, name: &[u8]) -> Option<usize>
+        ensures { IfSome result (λ n. n ≤ length self.new.space.now) }
+    {
+        match files::fetch(self.log.rt, name, self.space) {
+            Ok(n) => Some(n),
+            Err(e) => {
+                self.log.not_read(name, Cause::from(e));
+                None
+            }
         }
     }
-}
 
-pub(crate) fn unpack(
-    log: &mut Log,
-    state: State,
-    name: &[u8],
-    cells: &mut [u16],
-    space: &mut [u8],
-) -> State {
-    let got = super::files::fetch(log.rt, name, space);
-    if got.error != 0 {
-        failed(log, state.line, b"cannot read ", name, got.error);
-        return without_list(state);
+    // A hold file of a mask that splits no offset, written as one of the plain rule. The list has no
+    // part in it.
+    pub(crate) fn convert(&mut self, from: &[u8], to: &[u8]) {
+        let mut out = programs::space::<u8, { super::FILE }>(0);
+        let Some(n) = self.fetch(from) else {
+            return;
+        };
+        match file_convert::convert(&self.space[..n], &mut out) {
+            Ok(count) => self.log.store("converted", to, &out, count),
+            Err(why) => self.log.refused(why),
+        }
     }
-    let n = got.count;
-    let c = lent(state.settings, cells);
-    unpack_lent(log, state, &space[..n], &mut cells[..c])
+
+    // Reads a file in one of the two forms, and answers how many entries it has. After one that could
+    // not be read, what is in memory is not what a file of that name should get.
+    fn read<F: FnOnce(Settings, &[u8], &mut [u16]) -> Result<(Settings, usize), Refusal>>(
+        &mut self,
+        name: &[u8],
+        form: F,
+    ) -> Option<Count>
+        requires { F.IsAlwaysCallable form }
+    {
+        self.lost = true;
+        let n = self.fetch(name)?;
+        let settings = self.settings;
+        let bytes = &mut self.space[..n];
+        match form(settings, bytes, self.cells) {
+            Ok((settings, entries)) => {
+                self.begin(settings);
+                Some(Count::entries(entries))
+            }
+            Err(why) => {
+                self.log.refused(why);
+                None
+            }
+        }
+    }
+
+    pub(crate) fn load(&mut self, name: &[u8]) {
+        if let Some(entries) = self.read(name, read_file) {
+            let settings = Shown(self.settings);
+            self.log
+                .print(format_args!("loaded, {entries}, {settings}\n"));
+        }
+    }
+
+    pub(crate) fn unpack(&mut self, name: &[u8]) {
+        if let Some(entries) = self.read(name, read_packed) {
+            self.log.print(format_args!("unpacked, {entries}\n"));
+        }
+    }
 }

@@ -1,9 +1,8 @@
 -- The reader's steps: fields, cells, buckets, and the file as far as it has been read.
 -- Assumes nothing.
 use mathlib.Core.Path.{◌≡◌, refl, sym, ap, ◌∙◌, subst}
-use mathlib.Core.Logic.{◌≢◌}
 use mathlib.Core.Bool.{Bool, true, false, not, cond, ◌||◌, ◌&&◌}
-use mathlib.Core.Option.{Option, none}
+use mathlib.Core.Option.{Option, none, some}
 use mathlib.Core.List.{List, [], ◌∷◌, ◌++◌, append_assoc, append-nil}
 use Prim.Native.Nat.{ℕ, zero, suc, ◌+◌, ◌*◌, ◌-◌, ◌^◌, ◌≤◌, ◌<◌}
 use native.Mathlib.Numerals.{add-one}
@@ -16,17 +15,16 @@ use lib.ListN.{length, take, drop, get_or, set, length-append, drop_of_length-le
 use lib.Seq.{drop-cons, take_at, take_all, length-take-le}
 use Rattle.lemmas.proofs.Bools.{or-false-left, or-false-right}
 use Rattle.holdfile.proofs.Writing.{cond-le}
-use Rattle.refusals.specs.Checks.{Check, first_met, number_of}
+use Rattle.refusals.specs.Checks.{Check, first_met}
 use Rattle.refusals.specs.Outcomes.{Done, done, Outcome, keeping}
-use Rattle.refusals.proofs.Cursor.{number-met}
 use Rattle.index.specs.declared.Settings.{Settings}
-use Rattle.holdfile.specs.declared.Field.{Field}
-use Rattle.holdfile.specs.declared.Pass.{Pass}
-use Rattle.holdfile.specs.Internal.{field_is, pass_is, pair_from, cell_from, bucket_size, GoodAt, end_of, GivesCells, cells_read}
+use Rattle.std.specs.Prelude.{Some, None, Option as Found}
+use Rattle.holdfile.specs.Internal.{field_is, stop_of, pair_from, cell_from, bucket_size, GoodAt, end_of, GivesCells, cells_read}
 use Rattle.file_form.specs.Bytes.{bit0, bit1, bit2, bit3}
 use Rattle.file_form.specs.Parsed.{Parsed, stop, next, and_then, refuse_if, checked, answer_of}
 use Rattle.file_form.proofs.Laws.{in_front, in-front-append}
-use Rattle.file_form.specs.Reader.{take_byte, take_pair, read_header, read_cell, read_cells, read_bucket, read_buckets, bytes_left_over, after_buckets, after_header, read_all, into, read_file}
+use Rattle.file_form.specs.Reader.{take_byte, take_pair, read_header, read_cell, read_cells, read_bucket, read_buckets, bytes_left_over, after_buckets, after_header}
+use Rattle.file_form.specs.Reader.{read_all, into, read_file}
 
 -- ── fields ──
 module _ (l : List ℕ) (at : ℕ) where
@@ -108,16 +106,16 @@ cells-end w m l =
     last (next d rest) f h = h d rest
 
 -- a bucket whose byte was asked for: it is not there, marks more than four cells, or the cells follow
-module _ (w : ℕ) (l : List ℕ) (at : ℕ) {f : Field} (q : field_is l f ≡ take_byte (drop at l)) where
-  opened : (g : Field) → f ≡ g → read_bucket w (drop at l) ≡ and_then (field_is l g) (behind_marks w)
+module _ (w : ℕ) (l : List ℕ) (at : ℕ) {f : Found (ℕ × ℕ)} (q : field_is l f ≡ take_byte (drop at l)) where
+  opened : (g : Found (ℕ × ℕ)) → f ≡ g → read_bucket w (drop at l) ≡ and_then (field_is l g) (behind_marks w)
   opened g e = bucket-opened w (drop at l) ∙ ap (λ (p : Parsed ℕ). and_then p (behind_marks w)) (sym q ∙ ap (field_is l) e)
 
-  pub no-bucket : f ≡ Field.Short → stop 11 ≡ end_of (read_bucket w (drop at l))
-  no-bucket e = sym (ap end_of (opened Field.Short e))
+  pub no-bucket : f ≡ None → stop 11 ≡ end_of (read_bucket w (drop at l))
+  no-bucket e = sym (ap end_of (opened None e))
 
-  module _ {m to : ℕ} (e : f ≡ Field.Value m to) where
+  module _ {m to : ℕ} (e : f ≡ Some (m, to)) where
     tested : (b : Bool) → leb 16 m ≡ b → read_bucket w (drop at l) ≡ refuse_if b 13 (all_cells w m (drop to l))
-    tested b h = opened (Field.Value m to) e ∙ ap (λ (c : Bool). refuse_if c 13 (all_cells w m (drop to l))) h
+    tested b h = opened (Some (m, to)) e ∙ ap (λ (c : Bool). refuse_if c 13 (all_cells w m (drop to l))) h
 
     pub high-marks : 16 ≤ m → stop 13 ≡ end_of (read_bucket w (drop at l))
     high-marks h = sym (ap end_of (tested true (le-leb 16 m h)))
@@ -125,27 +123,12 @@ module _ (w : ℕ) (l : List ℕ) (at : ℕ) {f : Field} (q : field_is l f ≡ t
     pub low-marks : m < 16 → end_of (read_bucket w (drop at l)) ≡ ends0 w m (drop to l)
     low-marks h = ap end_of (tested false (lt-leb 16 m h)) ∙ cells-end w m (drop to l)
 
--- and a marked cell whose bytes were asked for
-module _ (w : ℕ) (l : List ℕ) (at : ℕ) {f : Field} (q : field_is l f ≡ take_pair (drop at l)) where
-  cut : (g : Field) → f ≡ g → end_of (read_cell w true (drop at l)) ≡ end_of (and_then (field_is l g) (λ x rest. refuse_if (eqb x 0 || leb (2 ^ w) x) 14 (next x rest)))
-  cut g e = ap (λ (p : Parsed ℕ). end_of (and_then p (λ x rest. refuse_if (eqb x 0 || leb (2 ^ w) x) 14 (next x rest)))) (sym q ∙ ap (field_is l) e)
+-- behind a cell that ends, and at one that does not
+pub goes_on : {p : Parsed (Unit {0})} {rest : List ℕ} (then : List ℕ → Parsed (Unit {0})) → next tt rest ≡ p → then rest ≡ and_then p (λ u more. then more)
+goes_on then e = ap (λ (x : Parsed (Unit {0})). and_then x (λ u more. then more)) e
 
-  pub cell-short : f ≡ Field.Short → stop 11 ≡ end_of (read_cell w true (drop at l))
-  cell-short e = sym (cut Field.Short e)
-
-  pub cell-whole : {v to : ℕ} → f ≡ Field.Value v to → (b : Bool) → unfit_of w true v ≡ b → end_of (read_cell w true (drop at l)) ≡ end_of (refuse_if b 14 (next v (drop to l)))
-  cell-whole {v} {to} e b h = cut (Field.Value v to) e ∙ ap (λ (c : Bool). end_of (refuse_if c 14 (next v (drop to l)))) h
-
--- a whole that has come to a cell: it stops there, or goes on behind it
-pub record AtBucketCell (whole p : Parsed (Unit {0})) (then : List ℕ → Parsed (Unit {0})) : Type 0 where
-  pub is : whole ≡ and_then p (λ u rest. then rest)
-
-module _ {whole p : Parsed (Unit {0})} {then : List ℕ → Parsed (Unit {0})} (l : List ℕ) {f : Pass} (k : AtBucketCell whole p then) (q : pass_is l f ≡ p) where
-  pub cell-stops : {n : ℕ} → f ≡ Pass.Refused n → pass_is l f ≡ whole
-  cell-stops {n} e = ap (pass_is l) e ∙ sym (k.is ∙ ap (λ (x : Parsed (Unit {0})). and_then x (λ u rest. then rest)) (sym q ∙ ap (pass_is l) e))
-
-  pub cell-goes-on : {at : ℕ} → f ≡ Pass.End at → whole ≡ then (drop at l)
-  cell-goes-on e = k.is ∙ ap (λ (x : Parsed (Unit {0})). and_then x (λ u rest. then rest)) (sym q ∙ ap (pass_is l) e)
+pub stops_here : {p : Parsed (Unit {0})} {n : ℕ} (then : List ℕ → Parsed (Unit {0})) → stop n ≡ p → stop n ≡ and_then p (λ u more. then more)
+stops_here then e = ap (λ (x : Parsed (Unit {0})). and_then x (λ u more. then more)) e
 
 -- ── a bucket by its marks: where its cells stand, and what they are ──
 abbrev pub second : ℕ → ℕ → ℕ
@@ -167,9 +150,6 @@ places-are at m p q r e f g = (omega arith, omega arith, omega arith)
 
 pub places-end : (at m : ℕ) → fourth at m + cond (bit3 m) 2 0 ≡ at + bucket_size m
 places-end at m = omega arith
-
-pub size_few : (m : ℕ) → bucket_size m ≤ 9
-size_few m = omega (arith, cond-le (bit0 m) 2, cond-le (bit1 m) 2, cond-le (bit2 m) 2, cond-le (bit3 m) 2)
 
 -- a marked cell that stands in the bytes, by its test; one that fits, or is not marked
 module _ {B : Type 0} (w : ℕ) (l : List ℕ) (at : ℕ) (then : ℕ → List ℕ → Parsed B) where
@@ -439,13 +419,13 @@ module _ {bytes : List ℕ} {whole : Parsed (List ℕ)} {w : ℕ} {table : List 
     pub upto-part : length (mid_of i (i + 4 - i) table) ≡ 4
     upto-part = mid_len i (i + 4) table upto-room ∙ omega arith
 
-    pub upto-more : (part : List ℕ) (end : ℕ) → length part ≡ length (mid_of i (i + 4 - i) table) → read_bucket w (drop at bytes) ≡ next part (drop end bytes)
-        → Upto bytes whole w (put_mid i (i + 4 - i) table part) end (i + 4) (left - 1)
-    upto-more part end long k = record {
+    pub upto-more : (part : List ℕ) (end : ℕ) {j n : ℕ} → j ≡ i + 4 → n ≡ left - 1 → length part ≡ length (mid_of i (i + 4 - i) table) → read_bucket w (drop at bytes) ≡ next part (drop end bytes)
+        → Upto bytes whole w (put_mid i (i + 4 - i) table part) end j n
+    upto-more part end e f long k = rw (e, f) (record {
       is = store-turn w left (drop at bytes) more at i end bytes table part refl upto-room (long ∙ upto-part) k ∙ U.is;
       size = omega (arith, U.size, same_len_mid i (i + 4 - i) table part long);
       passes = U.passes;
-    }
+    })
 
   pub upto-end : left ≤ 0 → table ≡ cells_read whole
   upto-end h = store-end w left i (drop at bytes) table whole h U.is U.size
@@ -460,92 +440,92 @@ stored (x ∷ y ∷ z ∷ w ∷ []) a b c d h = refl
 stored (x ∷ y ∷ z ∷ w ∷ v ∷ t) a b c d h = absurd (omega arith)
 
 -- ── what stands behind the header ──
-pub passed-of : (p : Parsed (List ℕ)) (rest : List ℕ) → next tt rest ≡ end_of p → GivesCells p
-passed-of (stop n) rest e = absurd (let z : ◌≡◌ {A = ℕ} 0 1 = cc in omega arith)
-passed-of (next c end) rest e = tt
-
 some_left : (l : List ℕ) (at : ℕ) → at < length l → bytes_left_over (drop at l) ≡ true
 some_left l at h = ap bytes_left_over (drop-cons l at 0 h)
 
 none_left : (l : List ℕ) (at : ℕ) → length l ≤ at → bytes_left_over (drop at l) ≡ false
 none_left l at h = ap bytes_left_over (drop_of_length-le l h)
 
-end-over : {A : Type 0} (a : A) (r : List ℕ) (b : Bool) → bytes_left_over r ≡ b → refuse_if {A = Unit {0}} b 15 (next tt r) ≡ end_of (refuse_if (bytes_left_over r) 15 (next a r))
-end-over a r true q = rw q refl
-end-over a r false q = rw q refl
-
-module _ (s : Settings) (rest : List ℕ) where
-  abbrev cells : Parsed (List ℕ)
-  cells = read_buckets s.width s.buckets rest
-
+module _ (s : Settings) (cells : Parsed (List ℕ)) where
   abbrev body : Parsed (Done Settings (List ℕ))
   body = and_then cells (after_buckets s)
 
-  -- where it ends: the buckets are read, and what is found there decides
-  pub end-stops : {n : ℕ} → stop n ≡ end_of cells → stop n ≡ end_of body
+  -- it stops where the buckets do, or where something stands behind them
+  pub end-stops : {n : ℕ} → stop n ≡ end_of cells → some n ≡ stop_of body
   end-stops {n} e = go cells e
     where
-      go : (p : Parsed (List ℕ)) → stop n ≡ end_of p → stop n ≡ end_of (and_then p (after_buckets s))
-      go (stop m) f = f
-      go (next c end) f = absurd (let z : ◌≡◌ {A = ℕ} 0 1 = cc in omega arith)
+      go : (p : Parsed (List ℕ)) → stop n ≡ end_of p → some n ≡ stop_of (and_then p (after_buckets s))
+      go (stop m) f =
+          let same : n ≡ m = cc in
+          ap some same
+      go (next c end) f = cc
 
   module _ (l : List ℕ) (end : ℕ) (e : next tt (drop end l) ≡ end_of cells) where
-    ended : (b : Bool) → bytes_left_over (drop end l) ≡ b → refuse_if {A = Unit {0}} b 15 (next tt (drop end l)) ≡ end_of body
+    ended : (b : Bool) → bytes_left_over (drop end l) ≡ b → cond b (some 15) none ≡ stop_of body
     unfolding after_buckets
     ended b k = go cells e
       where
-        go : (p : Parsed (List ℕ)) → next tt (drop end l) ≡ end_of p → refuse_if {A = Unit {0}} b 15 (next tt (drop end l)) ≡ end_of (and_then p (after_buckets s))
-        go (stop m) f = absurd (let z : ◌≡◌ {A = ℕ} 0 1 = cc in omega arith)
+        over : (c r : List ℕ) (t : Bool) → bytes_left_over r ≡ t → cond t (some 15) none ≡ stop_of (refuse_if (bytes_left_over r) 15 (next (done s c) r))
+        over c r true q = rw q refl
+        over c r false q = rw q refl
+
+        go : (p : Parsed (List ℕ)) → next tt (drop end l) ≡ end_of p → cond b (some 15) none ≡ stop_of (and_then p (after_buckets s))
+        go (stop m) f = cc
         go (next c r) f =
             let same : drop end l ≡ r = cc in
-            ap (λ (x : List ℕ). refuse_if {A = Unit {0}} b 15 (next tt x)) same ∙ end-over (done s c) r b (sym (ap bytes_left_over same) ∙ k)
+            over c r b (sym (ap bytes_left_over same) ∙ k)
 
-    pub end-left : end < length l → stop 15 ≡ end_of body
+    pub end-left : end < length l → some 15 ≡ stop_of body
     end-left h = ended true (some_left l end h)
 
-    pub end-done : length l ≤ end → next tt (drop end l) ≡ end_of body
+    pub end-done : length l ≤ end → none ≡ stop_of body
     end-done h = ended false (none_left l end h)
 
-  -- a body that ends gave its cells, and left nothing
+  -- a body that does not stop gave its cells, and left nothing
   pub record Read (b : Parsed (Done Settings (List ℕ))) : Type 0 where
     pub gives : GivesCells cells
     pub is : b ≡ next (done s (cells_read cells)) []
 
-  pub body-read : {more : List ℕ} → next tt more ≡ end_of body → Read body
+  pub body-read : none ≡ stop_of body → Read body
   unfolding after_buckets
-  body-read {more} e = go cells refl e
+  body-read e = go cells refl e
     where
-      over : (c r : List ℕ) → next tt more ≡ end_of (refuse_if (bytes_left_over r) 15 (next (done s c) r)) → refuse_if (bytes_left_over r) 15 (next (done s c) r) ≡ next (done s c) []
+      over : (c r : List ℕ) → none ≡ stop_of (refuse_if (bytes_left_over r) 15 (next (done s c) r)) → refuse_if (bytes_left_over r) 15 (next (done s c) r) ≡ next (done s c) []
       over c [] f = refl
-      over c (b ∷ r) f = absurd (let z : ◌≡◌ {A = ℕ} 0 1 = cc in omega arith)
+      over c (b ∷ r) f = cc
 
-      go : (p : Parsed (List ℕ)) → cells ≡ p → next tt more ≡ end_of (and_then p (after_buckets s)) → Read (and_then p (after_buckets s))
-      go (stop m) q f = absurd (let z : ◌≡◌ {A = ℕ} 0 1 = cc in omega arith)
+      go : (p : Parsed (List ℕ)) → cells ≡ p → none ≡ stop_of (and_then p (after_buckets s)) → Read (and_then p (after_buckets s))
+      go (stop m) q f = cc
       go (next c r) q f = record { gives = subst GivesCells (sym q) tt; is = over c r f ∙ ap (λ (x : Parsed (List ℕ)). next (done s (cells_read x)) []) (sym q) }
 
-  body-stopped : {n : ℕ} → stop n ≡ end_of body → body ≡ stop n
+  body-stopped : {n : ℕ} → some n ≡ stop_of body → body ≡ stop n
   body-stopped {n} e = go body e
     where
-      go : (p : Parsed (Done Settings (List ℕ))) → stop n ≡ end_of p → p ≡ stop n
-      go (stop m) f = let k : m ≡ n = cc in ap stop k
-      go (next d end) f = absurd (let z : ◌≡◌ {A = ℕ} 0 1 = cc in omega arith)
+      go : (p : Parsed (Done Settings (List ℕ))) → some n ≡ stop_of p → p ≡ stop n
+      go (stop m) f =
+          let k : m ≡ n = cc in
+          ap stop k
+      go (next d end) f = cc
 
-  -- behind any checks of the settings
-  module _ (checks : Settings → List Check) where
-    pub checks-met : {n : ℕ} → n ≡ number_of (first_met (checks s)) → n ≢ 0 → after_header checks s rest ≡ stop n
+-- behind any checks of the settings
+module _ (s : Settings) (rest : List ℕ) (checks : Settings → List Check) where
+  abbrev its_cells : Parsed (List ℕ)
+  its_cells = read_buckets s.width s.buckets rest
+
+  pub checks-met : {n : ℕ} → some n ≡ first_met (checks s) → after_header checks s rest ≡ stop n
+  unfolding after_header
+  checks-met e = ap (λ (o : Option ℕ). checked o (body s its_cells)) (sym e)
+
+  module _ (p : none ≡ first_met (checks s)) where
+    checks-passed : after_header checks s rest ≡ body s its_cells
     unfolding after_header
-    checks-met e h = ap (λ (o : Option ℕ). checked o body) (number-met (checks s) e h)
+    checks-passed = ap (λ (o : Option ℕ). checked o (body s its_cells)) (sym p)
 
-    module _ (p : first_met (checks s) ≡ none) where
-      checks-passed : after_header checks s rest ≡ body
-      unfolding after_header
-      checks-passed = ap (λ (o : Option ℕ). checked o body) p
+    pub after-stops : {n : ℕ} → some n ≡ stop_of (body s its_cells) → after_header checks s rest ≡ stop n
+    after-stops e = checks-passed ∙ body-stopped s its_cells e
 
-      pub after-stops : {n : ℕ} → stop n ≡ end_of body → after_header checks s rest ≡ stop n
-      after-stops e = checks-passed ∙ body-stopped e
-
-      pub after_read : {more : List ℕ} → next tt more ≡ end_of body → after_header checks s rest ≡ next (done s (cells_read cells)) []
-      after_read e = checks-passed ∙ (body-read e).is
+    pub after_read : none ≡ stop_of (body s its_cells) → after_header checks s rest ≡ next (done s (cells_read its_cells)) []
+    after_read e = checks-passed ∙ (body-read s its_cells e).is
 
 -- ── the whole: the header, and what stands behind it ──
 pub ends_as : (t : List ℕ) {p q : Parsed (Done Settings (List ℕ))} → p ≡ q → keeping t (answer_of q) ≡ keeping t (answer_of p)

@@ -2,19 +2,19 @@
 -- Assumes nothing.
 use mathlib.Core.Path.{◌≡◌, refl, sym, ap, ◌∙◌}
 use mathlib.Core.Bool.{Bool, true, false, cond, ◌||◌}
-use mathlib.Core.List.{List, [], ◌∷◌, ◌++◌}
+use mathlib.Core.List.{List, [], ◌∷◌, ◌++◌, append_assoc}
 use Prim.Native.Nat.{ℕ, suc, ◌+◌, ◌/◌, ◌%◌, ◌≤◌}
 use native.Mathlib.Numerals.{add-one}
 use native.Mathlib.Omega.{arith}
-use lib.ListN.{length, drop, set, length-append, drop_of_length-le}
+use lib.ListN.{length, drop, set, length-append}
 use lib.Seq.{sets}
 use Rattle.lemmas.specs.Stores.{Put, PutBefore}
-use Rattle.lemmas.proofs.Stores.{drop-four, put-nothing, put-before, put-from-start, stored-over}
+use Rattle.lemmas.proofs.Stores.{Left, left-before, left-none, put-from-start, stored-over}
 use Rattle.refusals.specs.Outcomes.{given, outcome}
 use Rattle.index.specs.declared.Settings.{Settings}
 use Rattle.file_form.specs.Bytes.{pair, where?}
 use Rattle.file_form.specs.Writer.{header, filled, cell_bytes, body, file_of, write_file, length_of_file}
-use Rattle.holdfile.specs.Internal.{slack, bucket_bytes_at}
+use Rattle.holdfile.specs.Internal.{slack, bytes_of_bucket}
 use Rattle.file_form.proofs.Sizes.{size-laws, file-length-laws}
 use Rattle.file_form.proofs.Foretold.{length-foretold}
 
@@ -53,37 +53,56 @@ module _ (ahead : Bool) (o : List ℕ) (at v : ℕ) where
           record { output = λ more h. ap (λ (n : ℕ). sets (set (set o at (v % 256)) (suc at) (v / 256)) n more) none ∙ over more h; place = refl }
       go false false e = absurd (let z : ◌≡◌ {A = ℕ} 0 1 = cc in omega arith)
 
-  -- they are not, and need not be
-  pub cell-left-out : (ahead || filled v) ≡ false → Stored o
-  cell-left-out e = go ahead (filled v) e
-    where
-      go : (a t : Bool) → (a || t) ≡ false → PutBefore (cond a 2 0) o o at (where? t (pair v)) (at + cond t 2 0)
-      go true t e = absurd (let z : ◌≡◌ {A = ℕ} 0 1 = cc in omega arith)
-      go false true e = absurd (let z : ◌≡◌ {A = ℕ} 0 1 = cc in omega arith)
-      go false false e =
-          let none : at + 0 ≡ at = omega arith in
-          rw none (put-before (put-nothing o at))
-
 -- ── the loops ──
-pub body-step : (c : List ℕ) (i : ℕ) → i + 4 ≤ length c → body (drop i c) ≡ bucket_bytes_at c i ++ body (drop (i + 4) c)
+-- a bucket in front of others
+pub body-parts : (f more : List ℕ) → length f ≡ 4 → body (f ++ more) ≡ bytes_of_bucket f ++ body more
 unfolding body
-body-step c i h = ap body (drop-four c i h)
+body-parts [] more e = absurd (omega arith)
+body-parts (a ∷ []) more e = absurd (omega arith)
+body-parts (a ∷ b ∷ []) more e = absurd (omega arith)
+body-parts (a ∷ b ∷ c ∷ []) more e = absurd (omega arith)
+body-parts (a ∷ b ∷ c ∷ d ∷ []) more e = refl
+body-parts (a ∷ b ∷ c ∷ d ∷ x ∷ f) more e = absurd (omega arith)
+
+pub body_end : (c : List ℕ) → length c ≡ 0 → body c ≡ []
+unfolding body
+body_end [] e = refl
+body_end (x ∷ c) e = absurd (omega arith)
 
 -- two buckets have two bytes at least
-pub body-two : (c : List ℕ) (i : ℕ) → i + 8 ≤ length c → 2 ≤ length (body (drop i c))
-body-two c i h =
-    let four : i + 4 + 4 ≤ length c = omega arith in
-    omega (
-      arith,
-      ap length (body-step c i (omega arith)),
-      ap length (body-step c (i + 4) four),
-      length-append (bucket_bytes_at c i) (body (drop (i + 4) c)),
-      length-append (bucket_bytes_at c (i + 4)) (body (drop (i + 4 + 4) c)),
-    )
+pub body-two : (c : List ℕ) → length c % 4 ≡ 0 → 8 ≤ length c → 2 ≤ length (body c)
+body-two c e h = omega (arith, size-laws.body (length c / 4) c (omega arith))
 
-pub body_end : (c : List ℕ) (i : ℕ) → length c ≤ i → body (drop i c) ≡ []
-unfolding body
-body_end c i h = ap body (drop_of_length-le c h)
+-- what is left to store are the buckets of two lists of cells
+pub record Ahead (o e : List ℕ) (from at : ℕ) (all rest last : List ℕ) : Type 0 where
+  pub left : Left o e from at (body all) (body (rest ++ last))
+  pub whole : length rest % 4 ≡ 0
+
+module _ {o e : List ℕ} {from at : ℕ} {all rest last : List ℕ} (A : Ahead o e from at all rest last) where
+  -- the first bucket, and those behind it
+  module _ (f more : List ℕ) (cut : rest ≡ f ++ more) (four : length f ≡ 4) where
+    first : body (rest ++ last) ≡ bytes_of_bucket f ++ body (more ++ last)
+    first = ap (λ (l : List ℕ). body (l ++ last)) cut ∙ ap body (append_assoc f more last) ∙ body-parts f (more ++ last) four
+
+    pub ahead-room : (n : ℕ) → n ≤ length (body (more ++ last)) → from + length (body all) ≤ length o → at + length (bytes_of_bucket f) + n ≤ length e
+    ahead-room n h r = omega (arith, A.left.place, A.left.long, ap length first, length-append (bytes_of_bucket f) (body (more ++ last)))
+
+    pub ahead-turn : (n : ℕ) {g : List ℕ} {r : ℕ} → n ≤ length (body (more ++ last)) → PutBefore n e g at (bytes_of_bucket f) r → Ahead o g from r all more last
+    ahead-turn n h p = record { left = left-before A.left (body (more ++ last)) p first h; whole = omega (arith, A.whole, ap length cut, length-append f more) }
+
+    pub ahead-two : length last ≡ 8 → 2 ≤ length (body (more ++ last))
+    ahead-two h =
+        let both : length (more ++ last) ≡ length more + 8 = length-append more last ∙ ap (λ (k : ℕ). length more + k) h in
+        body-two (more ++ last) (omega (arith, A.whole, ap length cut, length-append f more)) (omega arith)
+
+  -- the first list is done
+  module _ (none : length rest ≡ 0) where
+    rest-none : (l : List ℕ) → length l ≡ 0 → l ++ last ≡ last
+    rest-none [] h = refl
+    rest-none (x ∷ l) h = absurd (omega arith)
+
+    pub ahead-end : length last ≡ 0 → e ≡ sets o from (body all)
+    ahead-end h = (left-none A.left (ap body (rest-none rest none) ∙ body_end last h)).output
 
 -- ── what the call answers ──
 module _ (s : Settings) (c out : List ℕ) (needed : ℕ) (e : length_of_file s c ≡ given needed) where

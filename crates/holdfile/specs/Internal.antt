@@ -1,30 +1,36 @@
 -- Contracts of the functions inside: the writer's and the reader's definitions, cut where the code is cut.
 -- Assumes nothing.
-use Rattle.std.specs.Prelude.{◌≡◌, Bool, true, false, cond, List, [], ℕ, ◌+◌, ◌*◌, drop, get_or}
+use Rattle.std.specs.Prelude.{◌≡◌, Bool, true, false, cond, List, [], ℕ, ◌+◌, ◌*◌, drop, get_or, Option, Some, None, Result, Ok, Err}
+use Rattle.std.proofs.Math.Option.{Option as Found, none, some}
+use Rattle.refusals.specs.Refusals.{number_told}
+use Rattle.refusals.specs.declared.Refusal.{Refusal}
 use Rattle.file_form.specs.Writer.{bucket_bytes}
 use Rattle.file_form.specs.Parsed.{Parsed, stop, next}
 use Rattle.file_form.specs.Bytes.{bit0, bit1, bit2, bit3}
 use Rattle.file_form.specs.Reader.{read_bucket}
-use Rattle.holdfile.specs.declared.Field.{Field}
-use Rattle.holdfile.specs.declared.Pass.{Pass}
 
 -- ── writing ──
--- the bytes of the bucket in the four cells from i on
-abbrev pub bucket_bytes_at : List ℕ → ℕ → List ℕ
-bucket_bytes_at c i = bucket_bytes (get_or c i 0) (get_or c (i + 1) 0) (get_or c (i + 2) 0) (get_or c (i + 3) 0)
+-- the bytes of the bucket of four cells
+abbrev pub bytes_of_bucket : List ℕ → List ℕ
+bytes_of_bucket c = bucket_bytes (get_or c 0 0) (get_or c 1 0) (get_or c 2 0) (get_or c 3 0)
 
 -- what may be changed behind a cell or a bucket, where more is still to be stored there
 abbrev pub slack : Bool → ℕ
 slack ahead = cond ahead 2 0
 
 -- ── reading: a place in the bytes l stands for the bytes from there on ──
-abbrev pub field_is : List ℕ → Field → Parsed ℕ
-field_is l (Field.Value v at) = next v (drop at l)
-field_is l Field.Short = stop 11
+abbrev pub field_is : List ℕ → Option (ℕ × ℕ) → Parsed ℕ
+field_is l (Some (v, at)) = next v (drop at l)
+field_is l None = stop 11
 
-abbrev pub pass_is : List ℕ → Pass → Parsed (Unit {0})
-pass_is l (Pass.End at) = next tt (drop at l)
-pass_is l (Pass.Refused n) = stop n
+abbrev pub pass_is : List ℕ → Result ℕ Refusal → Parsed (Unit {0})
+pass_is l (Ok at) = next tt (drop at l)
+pass_is l (Err e) = stop (number_told e)
+
+-- the number at which a reading stops, if it does
+abbrev pub stop_of : {A : Type 0} → Parsed A → Found ℕ
+stop_of (stop n) = some n
+stop_of (next a rest) = none
 
 -- two bytes from a place on, as a number
 abbrev pub pair_from : List ℕ → ℕ → ℕ

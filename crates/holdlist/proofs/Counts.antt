@@ -1,7 +1,7 @@
 -- A count that a call answers is at most the length of what it leaves, so that a signed number has room for it: for the two writers, the
 -- converter and the reader of the packed form.
 -- Assumes nothing.
-use mathlib.Core.Path.{◌≡◌, sym, ap, subst, ◌∙◌}
+use mathlib.Core.Path.{◌≡◌, sym, ap, subst}
 use mathlib.Core.Bool.{Bool, true, false, cond}
 use mathlib.Core.Option.{Option, none, some}
 use mathlib.Core.List.{List, [], ◌∷◌, ◌++◌}
@@ -12,6 +12,10 @@ use lib.Dec.{eqb}
 use lib.ListN.{length, drop, length-append}
 use Rattle.lemmas.specs.Bytes.{number_from}
 use Rattle.refusals.specs.Checks.{first_met}
+use Rattle.std.specs.Prelude.{Result}
+use Rattle.std.specs.Result.{ForOk}
+use Rattle.refusals.specs.Refusals.{told}
+use Rattle.refusals.specs.declared.Refusal.{Refusal}
 use Rattle.refusals.specs.Outcomes.{Answer, given, refused, unless, Done, done, Outcome, outcome, keeping}
 use Rattle.index.specs.Settings.{former_checks}
 use Rattle.index.specs.declared.Settings.{Settings}
@@ -24,8 +28,6 @@ use Rattle.file_form.specs.Reader.{read_all}
 use Rattle.file_convert.specs.Converter.{plain_bytes, convert_checks, from_file, convert_file}
 use Rattle.packed_form.specs.Writer.{packed_of, write_packed}
 use Rattle.packed_form.specs.Reader.{with_count, unpack, length_checks, read_packed}
-use Rattle.holdlist.specs.Numbers.{itself}
-use Rattle.holdlist.proofs.Crossing.{Told, told}
 
 -- what a call answers, if it counts, is within what it leaves
 abbrev Within : Answer ℕ → List ℕ → Type 0
@@ -83,17 +85,9 @@ unpacked-counts s bytes c = go (first_met (table_checks s c ++ length_checks s b
     go none (refused k) = record { within = tt }
     go none (given k) = record { within = filled-below k }
 
--- ── each of these, answered as the case r' of its type, where m elements of a size were lent ──
--- what crosses the boundary, and that a signed number has room for the count
-pub record Counted (a : Answer ℕ) (left : List ℕ) (x : Outcome ℕ (List ℕ)) : Type 0 where
-  pub tells : Told itself a left x
-  pub room : {n : ℕ} → a ≡ given n → n < 2 ^ 63
-
-pub counted : {R : Type 0} (is : R → Answer ℕ) (size : ℕ) {r r' : R} {m : ℕ} {left : List ℕ} {x y : Outcome ℕ (List ℕ)} → 1 ≤ size → length left ≡ m → m * size < 2 ^ 63 → r ≡ r'
-    → outcome (is r) left ≡ x → Counts x → x ≡ y → Counted (is r') left y
-counted is size {r' = r'} {m = m} {left = left} s k b q e h y = record { tells = told itself is q e y; room = room }
-  where
-    room : {n : ℕ} → is r' ≡ given n → n < 2 ^ 63
-    room {n} g =
-        let w : n ≤ length left = subst (λ (a : Answer ℕ). Within a left) (ap is q ∙ g) (subst Counts (sym e) h).within in
-        omega (arith, mul-le-mul_left m s)
+-- ── a count that is told is within what is left of a buffer, and that has room: m elements of a size are no more than memory ──
+pub room : (r : Result ℕ Refusal) (size : ℕ) {m : ℕ} {left : List ℕ} {x : Outcome ℕ (List ℕ)} → 1 ≤ size → length left ≡ m → m * size < 2 ^ 63
+    → outcome (told r) left ≡ x → Counts x → ForOk r (λ n. n < 2 ^ 63)
+room r size {m = m} {left = left} s k b e h = λ n q.
+    let w : n ≤ length left = subst (λ (a : Answer ℕ). Within a left) (ap told q) (subst Counts (sym e) h).within in
+    omega (arith, mul-le-mul_left m s)

@@ -4,7 +4,7 @@ use Rattle.std.specs.Prelude.{List, ◌++◌, ℕ, take, replicate}
 use Rattle.refusals.specs.Checks.{first_met}
 use Rattle.refusals.specs.Outcomes.{Answer, refused, given, unless}
 use Rattle.index.specs.Settings.{settings_refusal}
-use Rattle.index.specs.Answers.{Entry}
+use Rattle.index.specs.declared.Entry.{Entry}
 use Rattle.index.specs.declared.Settings.{Settings}
 use Rattle.calls.specs.Calls.{view_checks}
 use Rattle.holdlist.specs.Numbers.{numbers_of}

@@ -3,9 +3,11 @@
 // buffers are there, and that one which is written overlaps no other.
 #![tactic(auto)]
 
-ghost use Rattle.std.specs.Prelude.{◌≡◌, ℕ, ◌+◌, ◌*◌, ◌<◌, ◌^◌, pos, length};
+ghost use Rattle.std.specs.Prelude.{◌≡◌, ℕ, ◌<◌, ◌^◌, length};
+ghost use Rattle.std.specs.Result.{ForOk};
 ghost use Rattle.std.proofs.Math.Option.{some};
 ghost use Rattle.refusals.specs.Checks.{first_met};
+ghost use Rattle.refusals.specs.Refusals.{number_told, told};
 ghost use Rattle.index.specs.Answers.{entry_of, offset_answer, candidates_answer};
 ghost use Rattle.calls.specs.Calls.{clear_table, lookup as lookup_of, release as release_of, hold as hold_of, hold_checks};
 ghost use Rattle.forecast.specs.Forecasts.{forecast as forecast_of};
@@ -17,52 +19,13 @@ ghost use Rattle.packed_form.specs.Reader.{read_packed};
 ghost use Rattle.holdlist.specs.Numbers.{settings_at, numbers_of, minus, signed, itself, said_number};
 ghost use Rattle.holdlist.specs.Calls.{settings_answer, view_answer, print_of, home_of, candidates_out, no_number, settings_out};
 
-use file_header::ReadAnswer;
-use file_length::LengthAnswer;
-use holdfile::WriteAnswer;
-use index::{OffsetAnswer, Settings, TagEntry};
-use packed::{PackAnswer, UnpackAnswer};
-use table::{ClearAnswer, HoldAnswer, LookupAnswer, ReleaseAnswer};
+use index::Settings;
+use refusals::Refusal;
+use table::Removal;
 
 // Settings as they are lent: rule, width, bucket count, mask and the two halves of the salt, low half first, as C's struct has them in
 // memory.
 type Lent = [u32; 6];
-
-// The number whose halves these are.
-fn joined(low: u32, high: u32) -> u64
-    ensures { result ≡ low + 2 ^ 32 * high }
-{
-    (low as u64) + 4294967296 * (high as u64)
-}
-
-// An answer.
-fn given(n: u32) -> i64
-    ensures { result ≡ pos n }
-{
-    n as i64
-}
-
-// An answer that counts bytes or cells.
-fn given_count(n: usize) -> i64
-    requires { n < 2 ^ 63 }
-    ensures { result ≡ pos n }
-{
-    n as i64
-}
-
-// A refusal.
-fn refused(n: u32) -> i64
-    ensures { result ≡ minus n }
-{
-    0 - (n as i64)
-}
-
-// A 16-bit answer.
-fn wide(x: u16) -> u32
-    ensures { result ≡ x }
-{
-    x as u32
-}
 
 // The settings that are lent: the one place where they are made.
 fn lent_settings(settings: &Lent) -> Settings
@@ -73,19 +36,53 @@ fn lent_settings(settings: &Lent) -> Settings
         width: settings[1],
         buckets: settings[2],
         mask: settings[3],
-        salt: joined(settings[4], settings[5]),
+        salt: u64::from(settings[4]) + (u64::from(settings[5]) << 32),
     }
 }
 
-// And the one place where they are handed out, with the answer 0.
-fn hand_out(s: Settings, settings: &mut Lent) -> i64
-    ensures { (result ≡ pos 0) × (settings.new ≡ numbers_of s) }
+// A refusal.
+fn refused(refusal: Refusal) -> i64
+    ensures { result ≡ minus (number_told refusal) }
 {
-    let low = (s.salt % 4294967296) as u32;
-    let high = (s.salt / 4294967296) as u32;
-    let all = [s.rule, s.width, s.buckets, s.mask, low, high];
-    *settings = all;
-    0
+    -i64::from(refusal.number())
+}
+
+// An answer that is a number.
+fn signed(answer: Result<u32, Refusal>) -> i64
+    ensures { result ≡ signed itself (told answer) }
+{
+    match answer {
+        Ok(n) => i64::from(n),
+        Err(refusal) => refused(refusal),
+    }
+}
+
+// An answer that counts bytes or cells.
+fn signed_count(answer: Result<usize, Refusal>) -> i64
+    requires { ForOk answer (λ n. n < 2 ^ 63) }
+    ensures { result ≡ signed itself (told answer) }
+{
+    match answer {
+        Ok(n) => n as i64,
+        Err(refusal) => refused(refusal),
+    }
+}
+
+// The settings of a file, where it gives some: the one place where they are handed out, with the answer 0.
+fn hand_out(answer: Result<Settings, Refusal>, settings: &mut Lent) -> i64
+    ensures value { result ≡ signed no_number (told answer) }
+    ensures settings_after { settings.new ≡ settings_out (told answer) settings.old }
+{
+    match answer {
+        Ok(s) => {
+            let low = (s.salt % 4294967296) as u32;
+            let high = (s.salt >> 32) as u32;
+            let all = [s.rule, s.width, s.buckets, s.mask, low, high];
+            *settings = all;
+            0
+        }
+        Err(refusal) => refused(refusal),
+    }
 }
 
 // 0, or minus the number that refuses the settings.
@@ -93,9 +90,7 @@ fn hand_out(s: Settings, settings: &mut Lent) -> i64
 pub extern "C" fn holdlist_settings_check(settings: &Lent) -> i64
     ensures { result ≡ signed itself (settings_answer (settings_at settings.now)) }
 {
-    let s = lent_settings(settings);
-    let first = s.refusal();
-    refused(first)
+    signed(lent_settings(settings).check().and(Ok(0)))
 }
 
 // The fingerprint of a tag.
@@ -103,11 +98,7 @@ pub extern "C" fn holdlist_settings_check(settings: &Lent) -> i64
 pub extern "C" fn holdlist_fingerprint(settings: &Lent, tag: &[u8]) -> i64
     ensures { result ≡ signed print_of (entry_of (settings_at settings.now) tag.now) }
 {
-    let s = lent_settings(settings);
-    match index::entry_of(s, tag) {
-        TagEntry::At(p, _) => given(wide(p)),
-        TagEntry::Refused(n) => refused(n),
-    }
+    signed(index::entry_of(lent_settings(settings), tag).map(|entry| u32::from(entry.print)))
 }
 
 // The home bucket of a tag.
@@ -115,11 +106,7 @@ pub extern "C" fn holdlist_fingerprint(settings: &Lent, tag: &[u8]) -> i64
 pub extern "C" fn holdlist_home(settings: &Lent, tag: &[u8]) -> i64
     ensures { result ≡ signed home_of (entry_of (settings_at settings.now) tag.now) }
 {
-    let s = lent_settings(settings);
-    match index::entry_of(s, tag) {
-        TagEntry::At(_, home) => given(home),
-        TagEntry::Refused(n) => refused(n),
-    }
+    signed(index::entry_of(lent_settings(settings), tag).map(|entry| entry.home))
 }
 
 // The offset of any 16-bit value.
@@ -127,11 +114,7 @@ pub extern "C" fn holdlist_home(settings: &Lent, tag: &[u8]) -> i64
 pub extern "C" fn holdlist_offset(settings: &Lent, fingerprint: u16) -> i64
     ensures { result ≡ signed itself (offset_answer (settings_at settings.now) fingerprint) }
 {
-    let s = lent_settings(settings);
-    match index::offset(s, fingerprint) {
-        OffsetAnswer::Is(d) => given(d),
-        OffsetAnswer::Refused(n) => refused(n),
-    }
+    signed(index::offset(lent_settings(settings), fingerprint))
 }
 
 // The candidates of a fingerprint in a bucket, to out, and how many there are. Places past them are 0.
@@ -145,15 +128,14 @@ pub extern "C" fn holdlist_candidates(
     ensures value { result ≡ signed length (candidates_answer (settings_at settings.now) fingerprint bucket) }
     ensures out_after { out.new ≡ candidates_out (candidates_answer (settings_at settings.now) fingerprint bucket) out.old }
 {
-    let s = lent_settings(settings);
-    let list = index::candidates(s, fingerprint, bucket);
-    let n = list.refusal;
-    if n != 0 {
-        return refused(n);
+    match index::candidates(lent_settings(settings), fingerprint, bucket) {
+        Ok(list) => {
+            let buckets = list.buckets;
+            *out = buckets;
+            list.count as i64
+        }
+        Err(refusal) => refused(refusal),
     }
-    let all = list.buckets;
-    *out = all;
-    given(list.count)
 }
 
 // Every cell empty: 0.
@@ -162,11 +144,7 @@ pub extern "C" fn holdlist_clear(settings: &Lent, table: &mut [u16]) -> i64
     ensures value { result ≡ signed said_number (clear_table (settings_at settings.now) table.old).answer }
     ensures table_after { table.new ≡ (clear_table (settings_at settings.now) table.old).leaves }
 {
-    let s = lent_settings(settings);
-    match table::clear(s, table) {
-        ClearAnswer::Cleared => 0,
-        ClearAnswer::Refused(n) => refused(n),
-    }
+    signed(table::clear(lent_settings(settings), table).and(Ok(0)))
 }
 
 // How many copies of the tag's fingerprint its candidates hold: above 0 where the tag is held.
@@ -174,11 +152,7 @@ pub extern "C" fn holdlist_clear(settings: &Lent, table: &mut [u16]) -> i64
 pub extern "C" fn holdlist_lookup(settings: &Lent, table: &[u16], tag: &[u8]) -> i64
     ensures { result ≡ signed said_number (lookup_of (settings_at settings.now) table.now tag.now).answer }
 {
-    let s = lent_settings(settings);
-    match table::lookup(s, table, tag) {
-        LookupAnswer::Copies(copies) => given(copies),
-        LookupAnswer::Refused(n) => refused(n),
-    }
+    signed(table::lookup(lent_settings(settings), table, tag))
 }
 
 // 1 where a copy of the tag's fingerprint was taken out, 0 where there is none.
@@ -187,11 +161,10 @@ pub extern "C" fn holdlist_release(settings: &Lent, table: &mut [u16], tag: &[u8
     ensures value { result ≡ signed said_number (release_of (settings_at settings.now) table.old tag.now).answer }
     ensures table_after { table.new ≡ (release_of (settings_at settings.now) table.old tag.now).leaves }
 {
-    let s = lent_settings(settings);
-    match table::release(s, table, tag) {
-        ReleaseAnswer::Released => 1,
-        ReleaseAnswer::Absent => 0,
-        ReleaseAnswer::Refused(n) => refused(n),
+    match table::release(lent_settings(settings), table, tag) {
+        Ok(Removal::Released) => 1,
+        Ok(Removal::Absent) => 0,
+        Err(refusal) => refused(refusal),
     }
 }
 
@@ -207,11 +180,7 @@ pub extern "C" fn holdlist_hold(
     ensures table_after { table.new ≡ (hold_of (settings_at settings.now) table.old (length scratch.old) tag.now).leaves }
     ensures by_index { (n : ℕ) → first_met (hold_checks (settings_at settings.now) table.old (length scratch.old) tag.now) ≡ some n → scratch.new ≡ scratch.old }
 {
-    let s = lent_settings(settings);
-    match table::hold(s, table, scratch, tag) {
-        HoldAnswer::Accepted(moves) => given(moves),
-        HoldAnswer::Refused(n) => refused(n),
-    }
+    signed(table::hold(lent_settings(settings), table, scratch, tag))
 }
 
 // What holdlist_hold would answer now. No cell is written.
@@ -226,11 +195,7 @@ pub extern "C" fn holdlist_forecast(
     ensures table_value { table.now ≡ (forecast_of (settings_at settings.now) table.now (length scratch.old) tag.now).leaves }
     ensures by_index { (n : ℕ) → first_met (hold_checks (settings_at settings.now) table.now (length scratch.old) tag.now) ≡ some n → scratch.new ≡ scratch.old }
 {
-    let s = lent_settings(settings);
-    match forecast::forecast(s, table, scratch, tag) {
-        HoldAnswer::Accepted(expected) => given(expected),
-        HoldAnswer::Refused(n) => refused(n),
-    }
+    signed(forecast::forecast(lent_settings(settings), table, scratch, tag))
 }
 
 // 0 where the bucket can be seen.
@@ -238,9 +203,7 @@ pub extern "C" fn holdlist_forecast(
 pub extern "C" fn holdlist_view_check(settings: &Lent, table: &[u16], bucket: u32) -> i64
     ensures { result ≡ signed itself (view_answer (settings_at settings.now) table.now bucket) }
 {
-    let s = lent_settings(settings);
-    let seen = bucket_view::view_check(s, table, bucket);
-    refused(seen)
+    signed(bucket_view::view_check(lent_settings(settings), table, bucket).and(Ok(0)))
 }
 
 // The number of bytes that the hold file of the table will have.
@@ -248,11 +211,7 @@ pub extern "C" fn holdlist_view_check(settings: &Lent, table: &[u16], bucket: u3
 pub extern "C" fn holdlist_file_length(settings: &Lent, table: &[u16]) -> i64
     ensures { result ≡ signed itself (length_of_file (settings_at settings.now) table.now) }
 {
-    let s = lent_settings(settings);
-    match file_length::file_length(s, table) {
-        LengthAnswer::Bytes(n) => given_count(n),
-        LengthAnswer::Refused(n) => refused(n),
-    }
+    signed_count(file_length::file_length(lent_settings(settings), table))
 }
 
 // The hold file of the table, to out, and how many bytes it takes. Later bytes of out stay as they are.
@@ -261,11 +220,7 @@ pub extern "C" fn holdlist_file_write(settings: &Lent, table: &[u16], out: &mut 
     ensures value { result ≡ signed itself (write_file (settings_at settings.now) table.now out.old).answer }
     ensures out_after { out.new ≡ (write_file (settings_at settings.now) table.now out.old).leaves }
 {
-    let s = lent_settings(settings);
-    match holdfile::write(s, table, out) {
-        WriteAnswer::Written(n) => given_count(n),
-        WriteAnswer::Refused(n) => refused(n),
-    }
+    signed_count(holdfile::write(lent_settings(settings), table, out))
 }
 
 // A hold file read: its cells to the table, and its settings to settings. 0.
@@ -275,10 +230,7 @@ pub extern "C" fn holdlist_file_read(bytes: &[u8], table: &mut [u16], settings: 
     ensures table_after { table.new ≡ (read_file bytes.now table.old).leaves }
     ensures settings_after { settings.new ≡ settings_out (read_file bytes.now table.old).answer settings.old }
 {
-    match holdfile::read(bytes, table) {
-        ReadAnswer::Read(s) => hand_out(s, settings),
-        ReadAnswer::Refused(n) => refused(n),
-    }
+    hand_out(holdfile::read(bytes, table), settings)
 }
 
 // The settings that a hold file names, to settings, for a caller that has to lend a table of their size. 0.
@@ -287,10 +239,7 @@ pub extern "C" fn holdlist_file_settings(bytes: &[u8], settings: &mut Lent) -> i
     ensures value { result ≡ signed no_number (header_answer bytes.now) }
     ensures settings_after { settings.new ≡ settings_out (header_answer bytes.now) settings.old }
 {
-    match file_header::settings_of(bytes) {
-        ReadAnswer::Read(s) => hand_out(s, settings),
-        ReadAnswer::Refused(k) => refused(k),
-    }
+    hand_out(file_header::settings_of(bytes), settings)
 }
 
 // A hold file of a mask that splits no offset, to out as one of the plain rule, and how many bytes it takes. Later bytes of out stay as
@@ -300,10 +249,7 @@ pub extern "C" fn holdlist_file_convert(bytes: &[u8], out: &mut [u8]) -> i64
     ensures value { result ≡ signed itself (convert_file bytes.now out.old).answer }
     ensures out_after { out.new ≡ (convert_file bytes.now out.old).leaves }
 {
-    match file_convert::convert(bytes, out) {
-        WriteAnswer::Written(n) => given_count(n),
-        WriteAnswer::Refused(k) => refused(k),
-    }
+    signed_count(file_convert::convert(bytes, out))
 }
 
 // The packed form of the table, to out, and how many bytes it takes. Later bytes of out stay as they are.
@@ -312,11 +258,7 @@ pub extern "C" fn holdlist_packed_write(settings: &Lent, table: &[u16], out: &mu
     ensures value { result ≡ signed itself (write_packed (settings_at settings.now) table.now out.old).answer }
     ensures out_after { out.new ≡ (write_packed (settings_at settings.now) table.now out.old).leaves }
 {
-    let s = lent_settings(settings);
-    match packed::write(s, table, out) {
-        PackAnswer::Packed(n) => given_count(n),
-        PackAnswer::Refused(n) => refused(n),
-    }
+    signed_count(packed::write(lent_settings(settings), table, out))
 }
 
 // A packed form read: its cells to the table, and how many of them are filled.
@@ -325,9 +267,5 @@ pub extern "C" fn holdlist_packed_read(settings: &Lent, bytes: &[u8], table: &mu
     ensures value { result ≡ signed itself (read_packed (settings_at settings.now) bytes.now table.old).answer }
     ensures table_after { table.new ≡ (read_packed (settings_at settings.now) bytes.now table.old).leaves }
 {
-    let s = lent_settings(settings);
-    match packed::read(s, bytes, table) {
-        UnpackAnswer::Unpacked(n) => given_count(n),
-        UnpackAnswer::Refused(n) => refused(n),
-    }
+    signed_count(packed::read(lent_settings(settings), bytes, table))
 }

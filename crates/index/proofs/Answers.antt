@@ -1,110 +1,90 @@
 -- Each call's answer, from what the code knows where it gives it.
 -- Assumes nothing.
-use Rattle.std.proofs.Common.{◌≡◌, ℕ, ◌<◌, ◌≤◌, Bool, cond, leb, ◌≢◌, ◌⊎◌, List, [], ◌++◌, length, sym, refl, ap, ◌∙◌, ap₂, arith, ne_eqb, leb-false}
+use Rattle.std.proofs.Common.{◌≡◌, ℕ, ◌<◌, ◌≤◌, leb, ◌⊎◌, List, [], ◌++◌, length, sym, ap, ◌∙◌, ap₂, leb-false}
 use mathlib.Core.Option.{none, some}
-use Rattle.refusals.specs.Checks.{Check, check, first_met, number_of, Numbered}
+use Rattle.refusals.specs.Checks.{Check, check, first_met}
 use Rattle.refusals.specs.Outcomes.{Answer, refused, given}
-use Rattle.refusals.proofs.Cursor.{start, all-met, all-passed, parts-passed, not-met, numbered-both, number-met, number_passed, is-refused, goes_on}
+use Rattle.refusals.proofs.Cursor.{start, all-met, all-passed, parts-passed, not-met, is-refused, goes_on}
 use Rattle.index.specs.Settings.{settings_checks, settings_refusal}
 use Rattle.index.specs.Hash.{fingerprint, home, tag_checks}
 use Rattle.index.specs.Candidates.{offset, candidates, bucket_checks}
-use Rattle.index.specs.Answers.{checked_settings, Entry, entry_of, offset_answer, candidates_are, listed, candidates_answer, Lists}
+use Rattle.index.specs.Answers.{checked_settings, entry_of, offset_answer, candidates_answer}
+use Rattle.index.specs.declared.Entry.{Entry}
+use Rattle.index.specs.declared.passed.Passed.{Passed}
 use Rattle.index.specs.declared.Settings.{Settings}
-use Rattle.index.proofs.Checks.{numbered, tag_passes, tag_refused, bucket_passes, bucket_refused}
+use Rattle.index.proofs.Checks.{tag_passes, tag_refused, bucket_passes, bucket_refused}
 
--- the number that the check of settings answered
-pub record Checked (s : Settings) (n : ℕ) : Type 0 where
-  pub is : n ≡ number_of (settings_refusal s)
+-- what the type of settings that passed tells
+pub as_passed : (p : Passed) {s : Settings} → p.settings ≡ s → none ≡ settings_refusal s
+as_passed p e = sym p.passes ∙ ap settings_refusal e
 
-module _ {s : Settings} {n : ℕ} (K : Checked s n) where
-  pub passed : n ≡ 0 → settings_refusal s ≡ none
-  passed h = number_passed (settings_checks s) K.is (numbered s) h
+-- the settings refuse with a number
+module _ (s : Settings) {n : ℕ} (e : some n ≡ settings_refusal s) where
+  -- whatever has more checks
+  stopped : (more : List Check) → first_met (settings_checks s ++ more) ≡ some n
+  stopped more = all-met (settings_checks s) more (start _) (sym e)
 
-  met : n ≢ 0 → settings_refusal s ≡ some n
-  met h = number-met (settings_checks s) K.is h
-
-  -- the settings refuse whatever has more checks, or what is left of the checks decides
-  stopped : (more : List Check) → n ≢ 0 → first_met (settings_checks s ++ more) ≡ some n
-  stopped more h = all-met (settings_checks s) more (start _) (met h)
-
-  left : (more : List Check) → n ≡ 0 → first_met (settings_checks s ++ more) ≡ first_met more
-  left more h = (all-passed (settings_checks s) more (start _) (passed h)).decides
-
-  pub checked_refused : n ≢ 0 → refused n ≡ checked_settings s
+  pub checked_refused : refused n ≡ checked_settings s
   unfolding checked_settings
-  checked_refused h = is-refused (given s) (met h)
+  checked_refused = is-refused (given s) (sym e)
 
-  pub checked-passed : n ≡ 0 → given s ≡ checked_settings s
+  pub offset-refused : (p : ℕ) → refused n ≡ offset_answer s p
+  unfolding offset_answer
+  offset-refused p = is-refused (given (offset s p)) (sym e)
+
+  pub entry_refused : (t : List ℕ) → refused n ≡ entry_of s t
+  unfolding entry_of
+  entry_refused t = is-refused (given (record { print = fingerprint s t; home = home s t })) (stopped (tag_checks t))
+
+  pub bucket-stopped : (b : ℕ) → some n ≡ first_met (settings_checks s ++ bucket_checks s b)
+  bucket-stopped b = sym (stopped (bucket_checks s b))
+
+-- the settings pass
+module _ (s : Settings) (e : none ≡ settings_refusal s) where
+  -- what is left of the checks decides
+  left : (more : List Check) → first_met (settings_checks s ++ more) ≡ first_met more
+  left more = (all-passed (settings_checks s) more (start _) (sym e)).decides
+
+  pub checked-passed : given s ≡ checked_settings s
   unfolding checked_settings
-  checked-passed h = goes_on (given s) (passed h)
+  checked-passed = goes_on (given s) (sym e)
 
-  module _ (p : ℕ) where
-    pub offset-refused : n ≢ 0 → refused n ≡ offset_answer s p
-    unfolding offset_answer
-    offset-refused h = is-refused (given (offset s p)) (met h)
+  pub offset-given : (p : ℕ) {d : ℕ} → d ≡ offset s p → given d ≡ offset_answer s p
+  unfolding offset_answer
+  offset-given p q = ap given q ∙ goes_on (given (offset s p)) (sym e)
 
-    pub offset-given : n ≡ 0 → {d : ℕ} → d ≡ offset s p → given d ≡ offset_answer s p
-    unfolding offset_answer
-    offset-given h q = ap given q ∙ goes_on (given (offset s p)) (passed h)
+  pub bucket-out : (b : ℕ) → s.buckets ≤ b → some 8 ≡ first_met (settings_checks s ++ bucket_checks s b)
+  bucket-out b k = sym (left (bucket_checks s b) ∙ bucket_refused s b k)
+
+  pub bucket-in : (b : ℕ) → b < s.buckets → none ≡ first_met (settings_checks s ++ bucket_checks s b)
+  bucket-in b k = sym (left (bucket_checks s b) ∙ bucket_passes s b k)
 
   module _ (t : List ℕ) where
     abbrev entry : Answer Entry
     entry = given (record { print = fingerprint s t; home = home s t })
 
-    pub entry_refused : n ≢ 0 → refused n ≡ entry_of s t
+    pub entry-bad : (length t ≡ 0) ⊎ (64 < length t) → refused 7 ≡ entry_of s t
     unfolding entry_of
-    entry_refused h = is-refused entry (stopped (tag_checks t) h)
+    entry-bad k = is-refused entry (left (tag_checks t) ∙ tag_refused t k)
 
-    pub entry-bad : n ≡ 0 → (length t ≡ 0) ⊎ (64 < length t) → refused 7 ≡ entry_of s t
+    pub entry_given : 0 < length t → length t ≤ 64 → {p b : ℕ} → p ≡ fingerprint s t → b ≡ home s t → given (record { print = p; home = b }) ≡ entry_of s t
     unfolding entry_of
-    entry-bad h k = is-refused entry (left (tag_checks t) h ∙ tag_refused t k)
+    entry_given k l ep eb = ap₂ (λ (x y : ℕ). given (record { print = x; home = y })) ep eb ∙ goes_on entry (left (tag_checks t) ∙ tag_passes t k l)
 
-    pub entry_given : n ≡ 0 → 0 < length t → length t ≤ 64 → {p b : ℕ} → p ≡ fingerprint s t → b ≡ home s t
-        → given (record { print = p; home = b }) ≡ entry_of s t
-    unfolding entry_of
-    entry_given h k l ep eb =
-        ap₂ (λ (x y : ℕ). given (record { print = x; home = y })) ep eb ∙ goes_on entry (left (tag_checks t) h ∙ tag_passes t k l)
+-- ── the candidates ──
+module _ (s : Settings) (b : ℕ) (p : ℕ) where
+  pub list-refused : {n : ℕ} → some n ≡ first_met (settings_checks s ++ bucket_checks s b) → refused n ≡ candidates_answer s p b
+  unfolding candidates_answer
+  list-refused e = is-refused (given (candidates s p b)) (sym e)
 
--- ── the candidates, by the number that the check of settings and bucket answered ──
-module _ (s : Settings) (b : ℕ) {n : ℕ} (e : n ≡ number_of (first_met (settings_checks s ++ bucket_checks s b))) where
-  bucket-numbered : Numbered (bucket_checks s b)
-  unfolding bucket_checks
-  bucket-numbered = (omega arith, tt)
+  module _ (e : none ≡ first_met (settings_checks s ++ bucket_checks s b)) where
+    pub list-passed : settings_refusal s ≡ none
+    list-passed = (parts-passed (settings_checks s) (bucket_checks s b) (sym e)).0
 
-  none-met : n ≡ 0 → first_met (settings_checks s ++ bucket_checks s b) ≡ none
-  none-met h = number_passed (settings_checks s ++ bucket_checks s b) e (numbered-both (settings_checks s) (bucket_checks s b) (numbered s) bucket-numbered) h
+    pub list_inside : b < s.buckets
+    unfolding bucket_checks
+    list_inside = leb-false s.buckets b (not-met (check 8 (leb s.buckets b)) [] (parts-passed (settings_checks s) (bucket_checks s b) (sym e)).1).0
 
-  pub list-passed : n ≡ 0 → settings_refusal s ≡ none
-  list-passed h = (parts-passed (settings_checks s) (bucket_checks s b) (none-met h)).0
-
-  pub list_inside : n ≡ 0 → b < s.buckets
-  unfolding bucket_checks
-  list_inside h = leb-false s.buckets b (not-met (check 8 (leb s.buckets b)) [] (parts-passed (settings_checks s) (bucket_checks s b) (none-met h)).1).0
-
-  module _ (p : ℕ) where
-    abbrev those : Answer (List ℕ)
-    those = given (candidates s p b)
-
-    -- an answer as the array has it, where it can be read back
-    written : (a : Answer (List ℕ)) → a ≡ candidates_answer s p b → candidates_are (listed a) ≡ a → Lists (listed a) (candidates_answer s p b)
-    written a q f = rw (sym q) (record { says = f; whole = refl })
-
-    pub list-refused : n ≢ 0 → Lists (listed (refused n)) (candidates_answer s p b)
+    pub list-given : {l : List ℕ} → candidates s p b ≡ l → given l ≡ candidates_answer s p b
     unfolding candidates_answer
-    list-refused h =
-        written (refused n) (is-refused those (number-met (settings_checks s ++ bucket_checks s b) e h)) (ap (λ (t : Bool). cond t (given []) (refused n)) (ne_eqb n 0 h))
-
-    pub list-given : n ≡ 0 → (l : List ℕ) → candidates s p b ≡ l → candidates_are (listed (given l)) ≡ given l → Lists (listed (given l)) (candidates_answer s p b)
-    unfolding candidates_answer
-    list-given h l q = written (given l) (ap given (sym q) ∙ goes_on those (none-met h))
-
--- the number itself
-module _ {s : Settings} {n : ℕ} (K : Checked s n) (b : ℕ) where
-  pub bucket-stopped : n ≢ 0 → n ≡ number_of (first_met (settings_checks s ++ bucket_checks s b))
-  bucket-stopped h = sym (ap number_of (stopped K (bucket_checks s b) h))
-
-  pub bucket-out : n ≡ 0 → s.buckets ≤ b → 8 ≡ number_of (first_met (settings_checks s ++ bucket_checks s b))
-  bucket-out h k = sym (ap number_of (left K (bucket_checks s b) h ∙ bucket_refused s b k))
-
-  pub bucket-in : n ≡ 0 → b < s.buckets → 0 ≡ number_of (first_met (settings_checks s ++ bucket_checks s b))
-  bucket-in h k = sym (ap number_of (left K (bucket_checks s b) h ∙ bucket_passes s b k))
+    list-given q = ap given (sym q) ∙ goes_on (given (candidates s p b)) (sym e)

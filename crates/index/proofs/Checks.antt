@@ -10,9 +10,10 @@ use Rattle.refusals.proofs.Cursor.{start, met, passed, none_left, all-passed, nu
 use Rattle.index.specs.Settings.{former_checks, settings_checks, settings_refusal}
 use Rattle.index.specs.Hash.{fingerprint, home, tag_checks}
 use Rattle.index.specs.Candidates.{candidates, bucket_checks}
-use Rattle.index.specs.Answers.{Entry, entry_of, candidates_answer}
+use Rattle.index.specs.Answers.{entry_of, candidates_answer}
 use Rattle.index.specs.Laws.{CheckLaws}
 use Rattle.index.specs.declared.Settings.{Settings}
+use Rattle.index.specs.declared.Entry.{Entry}
 use Rattle.index.proofs.Refusals.{numbered-former}
 
 pub numbered : (s : Settings) → Numbered (settings_checks s)

@@ -1,41 +1,14 @@
 -- What the code computes is what the definitions say, in plain numbers and lists.
 -- Assumes nothing.
-use Rattle.std.proofs.Common.{◌≡◌, ℕ, ◌+◌, ◌-◌, ◌*◌, ◌/◌, ◌%◌, ◌^◌, ◌<◌, ◌≤◌, ◌≢◌, List, [], ◌∷◌, length, get_or, drop, sym, refl, ap, ◌∙◌, ap₂, mod-lt, div-add-mod', zero-add, add-one, arith, drop_of_length-le, drop-cons, pow_pos, pow_mono}
-use native.Mathlib.Nat.{add-mod, add-mod-mod}
+use Rattle.std.proofs.Common.{◌≡◌, ℕ, ◌+◌, ◌-◌, ◌*◌, ◌/◌, ◌%◌, ◌^◌, ◌<◌, ◌≤◌, ◌≢◌, List, [], ◌∷◌, length, get_or, drop, sym, refl, ap, ◌∙◌, ap₂, mod-lt, div-add-mod'}
+use Rattle.std.proofs.Common.{zero-add, add-one, arith, drop_of_length-le, drop-cons, pow_pos, pow_mono}
 use lib.Bits.{bit_and, bit_xor, xor_block, xor_zero_r, and_mask}
-use Rattle.lemmas.proofs.Numbers.{mod_times}
 use Rattle.lemmas.proofs.Powers.{one_shifted}
 use Rattle.index.specs.Settings.{modulus}
 use Rattle.index.specs.Hash.{fnv_start, fnv_prime, fnv_step, fnv_from, fnv1a, tag_hash, fingerprint_of, home_of, fingerprint, home}
 use Rattle.index.specs.Candidates.{offset}
 use Rattle.index.specs.declared.Settings.{Settings}
 use Rattle.index.proofs.Good.{Good, some-prints, modulus-xor, modulus-ring}
-
--- the prime is 2^40 + 16 * 27 + 3, and each sum may be taken modulo 2^64 as it is made
-times3 : (h : ℕ) → (h + h * 2 ^ 1 % 2 ^ 64) % 2 ^ 64 ≡ h * 3 % 2 ^ 64
-times3 h = add-mod-mod h (h * 2) (2 ^ 64) ∙ ap (λ (x : ℕ). x % 2 ^ 64) (omega arith)
-
-times27 : (h : ℕ) → (h * 3 % 2 ^ 64 + h * 3 % 2 ^ 64 * 2 ^ 3 % 2 ^ 64) % 2 ^ 64 ≡ h * 27 % 2 ^ 64
-times27 h =
-    add-mod-mod (h * 3 % 2 ^ 64) (h * 3 % 2 ^ 64 * 2 ^ 3) (2 ^ 64) ∙ ap (λ (x : ℕ). x % 2 ^ 64) (nine (h * 3 % 2 ^ 64))
-    ∙ mod_times (h * 3) 9 (2 ^ 64) ∙ ap (λ (x : ℕ). x % 2 ^ 64) (omega arith)
-  where
-    nine : (x : ℕ) → x + x * 2 ^ 3 ≡ x * 9
-    nine x = omega arith
-
-times435 : (h : ℕ) → (h * 27 % 2 ^ 64 * 2 ^ 4 % 2 ^ 64 + h * 3 % 2 ^ 64) % 2 ^ 64 ≡ h * 435 % 2 ^ 64
-times435 h =
-    ap (λ (x : ℕ). (x + h * 3 % 2 ^ 64) % 2 ^ 64) (mod_times (h * 27) 16 (2 ^ 64))
-    ∙ sym (add-mod (h * 27 * 16) (h * 3) (2 ^ 64)) ∙ ap (λ (x : ℕ). x % 2 ^ 64) (omega arith)
-
-pub prime-by-shifts : (h : ℕ) {h3 h27 h435 r : ℕ}
-    → h3 ≡ (h + h * 2 ^ 1 % 2 ^ 64) % 2 ^ 64 → h27 ≡ (h3 + h3 * 2 ^ 3 % 2 ^ 64) % 2 ^ 64 → h435 ≡ (h27 * 2 ^ 4 % 2 ^ 64 + h3) % 2 ^ 64
-    → r ≡ (h * 2 ^ 40 % 2 ^ 64 + h435) % 2 ^ 64 → r ≡ h * fnv_prime % 2 ^ 64
-prime-by-shifts h {h3} {h27} {h435} a b d e =
-    let a' : h3 ≡ h * 3 % 2 ^ 64 = a ∙ times3 h in
-    let b' : h27 ≡ h * 27 % 2 ^ 64 = b ∙ ap (λ (x : ℕ). (x + x * 2 ^ 3 % 2 ^ 64) % 2 ^ 64) a' ∙ times27 h in
-    let d' : h435 ≡ h * 435 % 2 ^ 64 = d ∙ ap₂ (λ (x y : ℕ). (x * 2 ^ 4 % 2 ^ 64 + y) % 2 ^ 64) b' a' ∙ times435 h in
-    e ∙ ap (λ (x : ℕ). (h * 2 ^ 40 % 2 ^ 64 + x) % 2 ^ 64) d' ∙ sym (add-mod (h * 2 ^ 40) (h * 435) (2 ^ 64)) ∙ ap (λ (x : ℕ). x % 2 ^ 64) (omega arith)
 
 -- a byte put to a whole hash changes its low eight bits alone
 low_byte : (h b : ℕ) → b < 256 → bit_xor h b ≡ h / 256 * 256 + bit_xor (h % 256) b

@@ -1,14 +1,15 @@
 -- The settings' former checks, in the order in which the code makes them, and the one that came to them.
 -- Assumes nothing.
-use Rattle.std.proofs.Common.{◌≡◌, ℕ, zero, suc, ◌-◌, ◌<◌, ◌≤◌, Bool, true, false, not, ◌||◌, eqb, ltb, leb, ◌≢◌, List, [], ◌∷◌, sym, refl, ap, ◌∙◌, pos_of_ne-zero, arith, ltb-false, le-ltb, lt-ltb, eq-eqb, ne_eqb, le-leb}
+use Rattle.std.proofs.Common.{◌≡◌, ℕ, zero, suc, ◌-◌, ◌<◌, ◌≤◌, Bool, true, false, not, ◌||◌, eqb, ltb, leb, ◌≢◌, List, [], ◌∷◌, sym, refl, ap, ◌∙◌, pos_of_ne-zero}
+use Rattle.std.proofs.Common.{arith, ltb-false, le-ltb, lt-ltb, eq-eqb, ne_eqb, le-leb}
 use mathlib.Core.Option.{none, some}
 use native.Mathlib.Decide.{dec_le, ℕ_discrete}
 use mir.Val.{bool_byte}
 use borrow.Author.Tests.{eqb-false, lt-leb}
 use Rattle.lemmas.proofs.Bools.{or-true-left, or_true_right, or-false, or-false-left, or-false-right}
-use Rattle.refusals.specs.Checks.{Check, check, first_met, number_of, Numbered}
+use Rattle.refusals.specs.Checks.{Check, check, first_met, Numbered}
 use Rattle.refusals.specs.Laws.{Reached}
-use Rattle.refusals.proofs.Cursor.{start, met, passed, none_left, all-met, all-passed, not-met, number-met, number_passed}
+use Rattle.refusals.proofs.Cursor.{start, met, passed, none_left, all-met, all-passed, not-met}
 use Rattle.index.specs.Settings.{by_rule, misshapen, overlong, degenerate, form_checks, former_checks, former_refusal, settings_checks, settings_refusal}
 use Rattle.index.specs.declared.Settings.{Settings}
 
@@ -31,39 +32,36 @@ module _ (s : Settings) where
   abbrev pub Before : List Check → Type 0
   Before = Reached (form_checks s)
 
-  says : {n : ℕ} → first_met (form_checks s) ≡ some n → n ≡ number_of (first_met (form_checks s))
-  says e = sym (ap number_of e)
-
-  pub is_one : 2 < s.rule → 1 ≡ number_of (first_met (form_checks s))
+  pub is_one : 2 < s.rule → some 1 ≡ first_met (form_checks s)
   unfolding form_checks
-  is_one h = says (met (start (form_checks s)) (lt-ltb _ _ h))
+  is_one h = sym (met (start (form_checks s)) (lt-ltb _ _ h))
 
   pub past_one : s.rule ≤ 2 → Before from-two
   unfolding form_checks
   past_one h = passed (start (form_checks s)) (le-ltb _ _ h)
 
   module _ (at : Before from-two) where
-    pub is-two-low : s.width < 4 → 2 ≡ number_of (first_met (form_checks s))
-    is-two-low h = says (met at (or-true-left _ _ (lt-ltb _ _ h)))
+    pub is-two-low : s.width < 4 → some 2 ≡ first_met (form_checks s)
+    is-two-low h = sym (met at (or-true-left _ _ (lt-ltb _ _ h)))
 
-    pub is-two-high : 16 < s.width → 2 ≡ number_of (first_met (form_checks s))
-    is-two-high h = says (met at (or_true_right (ltb s.width 4) _ (lt-ltb _ _ h)))
+    pub is-two-high : 16 < s.width → some 2 ≡ first_met (form_checks s)
+    is-two-high h = sym (met at (or_true_right (ltb s.width 4) _ (lt-ltb _ _ h)))
 
     pub past_two : 4 ≤ s.width → s.width ≤ 16 → Before from-three
     past_two h k = passed at (or-false _ _ (le-ltb _ _ h) (le-ltb _ _ k))
 
   module _ (at : Before from-three) where
-    pub is-three-none : s.buckets ≡ 0 → 3 ≡ number_of (first_met (form_checks s))
-    is-three-none h = says (met at (or-true-left _ _ (or-true-left _ _ (eq-eqb _ _ h))))
+    pub is-three-none : s.buckets ≡ 0 → some 3 ≡ first_met (form_checks s)
+    is-three-none h = sym (met at (or-true-left _ _ (or-true-left _ _ (eq-eqb _ _ h))))
 
-    pub is-three-many : 65536 < s.buckets → 3 ≡ number_of (first_met (form_checks s))
-    is-three-many h = says (met at (or-true-left _ _ (or_true_right (eqb s.buckets 0) _ (lt-ltb _ _ h))))
+    pub is-three-many : 65536 < s.buckets → some 3 ≡ first_met (form_checks s)
+    is-three-many h = sym (met at (or-true-left _ _ (or_true_right (eqb s.buckets 0) _ (lt-ltb _ _ h))))
 
-    pub is-three-form : misshapen s ≡ true → 3 ≡ number_of (first_met (form_checks s))
-    is-three-form e = says (met at (or_true_right (eqb s.buckets 0 || ltb 65536 s.buckets) _ e))
+    pub is-three-form : misshapen s ≡ true → some 3 ≡ first_met (form_checks s)
+    is-three-form e = sym (met at (or_true_right (eqb s.buckets 0 || ltb 65536 s.buckets) _ e))
 
-    pub past_three : s.buckets ≢ 0 → s.buckets ≤ 65536 → misshapen s ≡ false → 0 ≡ number_of (first_met (form_checks s))
-    past_three n h e = sym (ap number_of (none_left (passed at (or-false _ _ (or-false _ _ (ne_eqb _ _ n) (le-ltb _ _ h)) e))))
+    pub past_three : s.buckets ≢ 0 → s.buckets ≤ 65536 → misshapen s ≡ false → none ≡ first_met (form_checks s)
+    past_three n h e = sym (none_left (passed at (or-false _ _ (or-false _ _ (ne_eqb _ _ n) (le-ltb _ _ h)) e)))
 
   -- ── the mask against its limit ──
   from_one : (k : ℕ) → leb 1 k ≡ not (eqb k 0)
@@ -88,16 +86,6 @@ module _ (s : Settings) where
     ])
   ]
 
-  -- the least mask is not above the limit
-  pub least-low : (n : ℕ) → n ≡ by_rule s.rule 1 1 s.buckets → s.rule ≤ 2 → 0 < s.buckets → bool_byte (eqb s.rule 2) ≤ n
-  least-low n e h l = go s.rule h e
-    where
-      go : (r : ℕ) → r ≤ 2 → n ≡ by_rule r 1 1 s.buckets → bool_byte (eqb r 2) ≤ n
-      go zero h e = omega arith
-      go (suc zero) h e = omega arith
-      go (suc (suc zero)) h e = omega arith
-      go (suc (suc (suc r))) h e = absurd (omega arith)
-
   -- one range for all rules
   pub range-test : (n : ℕ) → n ≡ by_rule s.rule 1 1 s.buckets → s.rule ≤ 2 → 0 < s.buckets
       → (ltb s.mask (bool_byte (eqb s.rule 2)) || leb (n - bool_byte (eqb s.rule 2)) s.mask) ≡ (overlong s || degenerate s)
@@ -117,10 +105,6 @@ module _ (s : Settings) where
       go (suc (suc zero)) h e = ap (λ (x : ℕ). ltb s.mask 1 || leb (x - 1) s.mask) e ∙ mask-range s.mask s.buckets l
       go (suc (suc (suc r))) h e = absurd (omega arith)
 
-  numbered-form : Numbered (form_checks s)
-  unfolding form_checks
-  numbered-form = (omega arith, (omega arith, (omega arith, tt)))
-
   -- what is known of rule and count where the mask is looked at
   pub rule-low : first_met (form_checks s) ≡ none → (s.rule ≤ 2) × (0 < s.buckets)
   unfolding form_checks
@@ -131,44 +115,41 @@ module _ (s : Settings) where
       let counts = or-false-left (eqb s.buckets 0 || ltb 65536 s.buckets) (misshapen s) three.0 in
       (ltb-false 2 s.rule one.0, pos_of_ne-zero (eqb-false s.buckets 0 (or-false-left (eqb s.buckets 0) (ltb 65536 s.buckets) counts)))
 
-  -- ── the checks of the mask, once the number of the others is known ──
-  module _ {n : ℕ} (e : n ≡ number_of (first_met (form_checks s))) where
-    pub refused-before : n ≢ 0 → n ≡ number_of (former_refusal s)
+  -- ── the checks of the mask, once it is known what the others come to ──
+  module _ {n : ℕ} (e : some n ≡ first_met (form_checks s)) where
+    pub refused-before : some n ≡ former_refusal s
     unfolding former_checks
-    refused-before h = sym (ap number_of (all-met (form_checks s) _ (start (former_checks s)) (number-met (form_checks s) e h)))
+    refused-before = sym (all-met (form_checks s) _ (start (former_checks s)) (sym e))
 
-    pub refused-still : n ≢ 0 → n ≡ number_of (settings_refusal s)
+    pub refused-still : some n ≡ settings_refusal s
     unfolding form_checks former_checks settings_checks
-    refused-still h = sym (ap number_of (all-met (form_checks s) (check 4 (overlong s) ∷ check 4 (degenerate s) ∷ []) (start (settings_checks s)) (number-met (form_checks s) e h)))
+    refused-still = sym (all-met (form_checks s) (check 4 (overlong s) ∷ check 4 (degenerate s) ∷ []) (start (settings_checks s)) (sym e))
 
-    module _ (h : n ≡ 0) where
-      pub form-passed : first_met (form_checks s) ≡ none
-      form-passed = number_passed (form_checks s) e numbered-form h
+  module _ (e : none ≡ first_met (form_checks s)) where
+    at-four : Reached (former_checks s) (check 4 (overlong s) ∷ [])
+    unfolding former_checks
+    at-four = all-passed (form_checks s) _ (start (former_checks s)) (sym e)
 
-      at-four : Reached (former_checks s) (check 4 (overlong s) ∷ [])
-      unfolding former_checks
-      at-four = all-passed (form_checks s) _ (start (former_checks s)) form-passed
+    module _ {k : ℕ} (q : k ≡ by_rule s.rule 1 1 s.buckets) where
+      tested : leb k s.mask ≡ overlong s
+      tested = ap (λ (x : ℕ). leb x s.mask) q ∙ limit-test s.rule s.mask s.buckets
 
-      module _ {k : ℕ} (q : k ≡ by_rule s.rule 1 1 s.buckets) where
-        tested : leb k s.mask ≡ overlong s
-        tested = ap (λ (x : ℕ). leb x s.mask) q ∙ limit-test s.rule s.mask s.buckets
+      pub is-four : k ≤ s.mask → some 4 ≡ former_refusal s
+      is-four l = sym (met at-four (sym tested ∙ le-leb _ _ l))
 
-        pub is-four : k ≤ s.mask → 4 ≡ number_of (former_refusal s)
-        is-four l = sym (ap number_of (met at-four (sym tested ∙ le-leb _ _ l)))
+      pub is_none : s.mask < k → none ≡ former_refusal s
+      is_none l = sym (none_left (passed at-four (sym tested ∙ lt-leb _ _ l)))
 
-        pub is_none : s.mask < k → 0 ≡ number_of (former_refusal s)
-        is_none l = sym (ap number_of (none_left (passed at-four (sym tested ∙ lt-leb _ _ l))))
+    at_both : Reached (settings_checks s) (check 4 (overlong s) ∷ check 4 (degenerate s) ∷ [])
+    unfolding form_checks former_checks settings_checks
+    at_both = all-passed (form_checks s) (check 4 (overlong s) ∷ check 4 (degenerate s) ∷ []) (start (settings_checks s)) (sym e)
 
-      at_both : Reached (settings_checks s) (check 4 (overlong s) ∷ check 4 (degenerate s) ∷ [])
-      unfolding form_checks former_checks settings_checks
-      at_both = all-passed (form_checks s) (check 4 (overlong s) ∷ check 4 (degenerate s) ∷ []) (start (settings_checks s)) form-passed
+    pub range-four : (overlong s || degenerate s) ≡ true → some 4 ≡ settings_refusal s
+    range-four d = go (overlong s) refl d
+      where
+        go : (b : Bool) → overlong s ≡ b → (b || degenerate s) ≡ true → some 4 ≡ settings_refusal s
+        go true q f = sym (met at_both q)
+        go false q f = sym (met (passed at_both q) f)
 
-      pub range-four : (overlong s || degenerate s) ≡ true → 4 ≡ number_of (settings_refusal s)
-      range-four d = go (overlong s) refl d
-        where
-          go : (b : Bool) → overlong s ≡ b → (b || degenerate s) ≡ true → 4 ≡ number_of (settings_refusal s)
-          go true q f = sym (ap number_of (met at_both q))
-          go false q f = sym (ap number_of (met (passed at_both q) f))
-
-      pub range_none : (overlong s || degenerate s) ≡ false → 0 ≡ number_of (settings_refusal s)
-      range_none d = sym (ap number_of (none_left (passed (passed at_both (or-false-left (overlong s) (degenerate s) d)) (or-false-right (overlong s) (degenerate s) d))))
+    pub range_none : (overlong s || degenerate s) ≡ false → none ≡ settings_refusal s
+    range_none d = sym (none_left (passed (passed at_both (or-false-left (overlong s) (degenerate s) d)) (or-false-right (overlong s) (degenerate s) d)))

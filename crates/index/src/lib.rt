@@ -2,16 +2,25 @@
 // above relies on the laws of specs/Laws.antt and on nothing else.
 #![tactic(auto)]
 
-ghost use Rattle.std.specs.Prelude.{◌≡◌, ◌+◌, ◌-◌, ◌*◌, ◌%◌, ◌^◌, ◌<◌, ◌≤◌, not, ◌||◌, ◌≢◌, [], ◌∷◌, ◌++◌, bit_xor};
-ghost use Rattle.std.proofs.Math.Option.{none};
-ghost use Rattle.refusals.specs.Checks.{first_met, number_of};
+ghost use Rattle.std.specs.Prelude.{◌≡◌, ◌+◌, ◌-◌, ◌*◌, ◌%◌, ◌^◌, ◌<◌, ◌≤◌, not, ◌||◌, ◌≢◌, [], ◌∷◌, ◌++◌, bit_xor, IfOk, IfErr};
+ghost use Rattle.std.proofs.Math.Option.{some};
+ghost use Rattle.refusals.specs.Checks.{first_met};
+ghost use Rattle.refusals.specs.Refusals.{number_told, refused_by, told};
 ghost use Rattle.index.specs.Settings.{by_rule, default_settings, Representable, overlong, degenerate, form_checks, former_refusal, settings_checks, settings_refusal, modulus, power_of_two, odd};
 ghost use Rattle.index.specs.Hash.{fnv_start, fnv_step, fnv_prime, fingerprint_of, fnv_from as hash_from, fnv1a as hash_of, tag_hash as hash_of_tag};
 ghost use Rattle.index.specs.Candidates.{offset as offset_of, across as across_of, candidates as candidates_of, bucket_checks};
-ghost use Rattle.index.specs.Answers.{checked_is, checked_settings, tag_entry_is, entry_of, offset_is, offset_answer, Lists, candidates_answer};
+ghost use Rattle.index.specs.Answers.{checked_settings, entry_of, offset_answer, Lists, candidates_answer};
+
+use refusals::Refusal;
+
+mod candidate_list;
+mod passed;
+
+pub use candidate_list::Candidates;
+use passed::Passed;
 
 // The settings of a table. Any numbers can be handed in, so each call checks them.
-#[derive(Clone, Copy)]
+#[derive(Clone, Copy, Debug, PartialEq, Eq)]
 pub struct Settings {
     pub rule: u32,
     pub width: u32,
@@ -20,33 +29,23 @@ pub struct Settings {
     pub salt: u64,
 }
 
-// The checking constructor's answer.
-#[derive(Clone, Copy)]
-pub enum Checked {
-    Passed(Settings),
-    Refused(u32),
-}
-
 // The fingerprint and the home bucket of a tag.
-#[derive(Clone, Copy)]
-pub enum TagEntry {
-    At(u16, u32),
-    Refused(u32),
+#[derive(Clone, Copy, Debug, PartialEq, Eq)]
+pub struct Entry {
+    pub print: u16,
+    pub home: u32,
 }
 
-#[derive(Clone, Copy)]
-pub enum OffsetAnswer {
-    Is(u32),
-    Refused(u32),
-}
+// The limits of the checks.
+const LAST_RULE: u32 = 2;
 
-// The first `count` buckets are the candidates, in order. Where refusal is not 0 there are none.
-#[derive(Clone, Copy)]
-pub struct CandidateList {
-    pub refusal: u32,
-    pub count: u32,
-    pub buckets: [u32; 4],
-}
+const LEAST_WIDTH: u32 = 4;
+
+const MOST_WIDTH: u32 = 16;
+
+const MOST_BUCKETS: u32 = 65536;
+
+const LONGEST_TAG: usize = 64;
 
 // The bits that no count of the rule's form has: the lowest on the ring, where it is even, else those of
 // the number one below, as in no power of two.
@@ -111,66 +110,58 @@ impl Settings {
         }
     }
 
-    // The first of the checks before the mask's.
-    fn form_refusal(self) -> u32
-        ensures { result ≡ number_of (first_met (form_checks self)) }
+    // The checks before the mask's.
+    fn check_form(self) -> Result<(), Refusal>
+        ensures { refused_by result ≡ first_met (form_checks self) }
     {
         let rule = self.rule;
         let width = self.width;
         let buckets = self.buckets;
-        if rule > 2 {
-            return 1;
+        if rule > LAST_RULE {
+            return Err(Refusal::Rule);
         }
-        if width < 4 {
-            return 2;
+        if width < LEAST_WIDTH || width > MOST_WIDTH {
+            return Err(Refusal::Width);
         }
-        if width > 16 {
-            return 2;
+        if buckets == 0 || buckets > MOST_BUCKETS || misshapen(rule, buckets) {
+            return Err(Refusal::BucketCount);
         }
-        if buckets == 0 {
-            return 3;
-        }
-        if buckets > 65536 {
-            return 3;
-        }
-        if misshapen(rule, buckets) {
-            return 3;
-        }
-        0
+        Ok(())
     }
 
-    // The first number by which the settings were refused while a degenerate mask still passed, 0 where they passed: files of that time
-    // are converted.
-    pub fn former_refusal(self) -> u32
-        ensures { result ≡ number_of (former_refusal self) }
+    // The checks while a degenerate mask still passed: files of that time are converted.
+    pub fn former_check(self) -> Result<(), Refusal>
+        ensures { refused_by result ≡ former_refusal self }
     {
-        let n = self.form_refusal();
-        if n != 0 {
-            return n;
+        self.check_form()?;
+        if self.mask >= mask_limit(self.rule, self.buckets) {
+            return Err(Refusal::Mask);
         }
-        let limit = mask_limit(self.rule, self.buckets);
-        if self.mask >= limit {
-            return 4;
-        }
-        0
+        Ok(())
     }
 
-    // The first number by which the settings are refused, 0 where they pass.
-    pub fn refusal(self) -> u32
-        ensures { result ≡ number_of (settings_refusal self) }
+    // Whether the settings pass.
+    pub fn check(self) -> Result<(), Refusal>
+        ensures { refused_by result ≡ settings_refusal self }
     {
-        let n = self.form_refusal();
-        if n != 0 {
-            return n;
-        }
+        self.check_form()?;
         if mask_refused(self) {
-            return 4;
+            return Err(Refusal::Mask);
         }
-        0
+        Ok(())
     }
 
-    pub fn new(rule: u32, width: u32, buckets: u32, mask: u32, salt: u64) -> Checked
-        ensures result_value { checked_is result ≡ checked_settings (record { rule = rule; width = width; buckets = buckets; mask = mask; salt = salt }) }
+    // The settings, where they pass.
+    fn passed(self) -> Result<Passed, Refusal>
+        ensures same { IfOk result (λ p. p.settings ≡ self) }
+        ensures refused { IfErr result (λ e. some (number_told e) ≡ settings_refusal self) }
+    {
+        self.check()?;
+        Ok(Passed { settings: self })
+    }
+
+    pub fn new(rule: u32, width: u32, buckets: u32, mask: u32, salt: u64) -> Result<Self, Refusal>
+        ensures result_value { told result ≡ checked_settings (record { rule = rule; width = width; buckets = buckets; mask = mask; salt = salt }) }
         ensures representable { Representable (record { rule = rule; width = width; buckets = buckets; mask = mask; salt = salt }) }
     {
         let s = Settings {
@@ -180,12 +171,7 @@ impl Settings {
             mask,
             salt,
         };
-        let n = s.refusal();
-        if n == 0 {
-            Checked::Passed(s)
-        } else {
-            Checked::Refused(n)
-        }
+        Ok(s.passed()?.settings)
     }
 }
 
@@ -214,10 +200,8 @@ pub fn fnv_from(start: u64, bytes: &[u8]) -> u64
     ensures { result ≡ hash_from start bytes.now }
 {
     let mut h = start;
-    let mut i = 0;
-    while i < bytes.len() {
-        h = step(h, bytes[i]);
-        i += 1;
+    for &b in bytes {
+        h = step(h, b);
     }
     h
 }
@@ -243,141 +227,63 @@ fn tag_hash(salt: u64, tag: &[u8]) -> u64
     fnv_from(start_of(salt), tag)
 }
 
-// A hash reduced to a bucket: a remainder under the ring rule, low bits where M is a power of two.
-fn reduce(s: Settings, h: u64) -> u32
-    requires { settings_refusal s ≡ none }
-    ensures { result ≡ h % modulus s }
+// The fingerprint and the home bucket of a tag, from one hash. It is inlined: the checks of the settings are then those that the caller has
+// made, and the entry does not go through memory, in two stores and one load, which takes a hold or a release an eighth longer.
+#[inline(always)]
+pub fn entry_of(s: Settings, tag: &[u8]) -> Result<Entry, Refusal>
+    ensures { told result ≡ entry_of s tag.now }
 {
-    let rule = s.rule;
-    let buckets = s.buckets as u64;
-    if rule == 1 {
-        (h % (buckets / 2)) as u32
-    } else {
-        (h & (buckets - 1)) as u32
-    }
-}
-
-// The lower 32 bits of a hash, spread over the fingerprints that there are. They are divided as 32 bits, which takes less time than 64.
-fn fingerprint_of(s: Settings, h: u64) -> u16
-    requires { settings_refusal s ≡ none }
-    ensures { result ≡ fingerprint_of s h }
-{
-    let width = s.width;
-    let lower = (h % 4294967296) as u32;
-    let prints = (1u32 << width) - 1;
-    (1 + lower % prints) as u16
-}
-
-// The fingerprint and the home bucket of a tag, from one hash.
-pub fn entry_of(s: Settings, tag: &[u8]) -> TagEntry
-    ensures { tag_entry_is result ≡ entry_of s tag.now }
-{
-    let n = s.refusal();
-    if n != 0 {
-        return TagEntry::Refused(n);
-    }
-    if tag.len() == 0 {
-        return TagEntry::Refused(7);
-    }
-    if tag.len() > 64 {
-        return TagEntry::Refused(7);
+    let passed = s.passed()?;
+    if tag.is_empty() || tag.len() > LONGEST_TAG {
+        return Err(Refusal::Tag);
     }
     let h = tag_hash(s.salt, tag);
-    TagEntry::At(fingerprint_of(s, h), reduce(s, h >> 32))
-}
-
-fn offset_of(s: Settings, p: u16) -> u32
-    requires { settings_refusal s ≡ none }
-    ensures { result ≡ offset_of s p }
-{
-    let low = (p % 256) as u8;
-    let high = (p / 256) as u8;
-    reduce(s, step(step(FNV_START, low), high))
+    Ok(Entry {
+        print: passed.fingerprint(h),
+        home: passed.reduce(h >> 32),
+    })
 }
 
 // The offset of any 16-bit value.
-pub fn offset(s: Settings, fingerprint: u16) -> OffsetAnswer
-    ensures { offset_is result ≡ offset_answer s fingerprint }
+pub fn offset(s: Settings, fingerprint: u16) -> Result<u32, Refusal>
+    ensures { told result ≡ offset_answer s fingerprint }
 {
-    let n = s.refusal();
-    if n != 0 {
-        return OffsetAnswer::Refused(n);
-    }
-    OffsetAnswer::Is(offset_of(s, fingerprint))
+    Ok(s.passed()?.offset(fingerprint))
 }
 
-// The other end of b's pair on the ring. Both sums are below twice l, so that one test takes the
-// remainder, and b is at least d where d is taken off.
-fn across(l: u32, d: u32, b: u32) -> u32
-    requires { (d < l) × (l ≤ 32768) × (b < 2 * l) }
-    ensures { result ≡ across_of l d b }
+// Settings that pass, with a bucket that there is.
+fn checked_bucket(s: Settings, bucket: u32) -> Result<Passed, Refusal>
+    ensures same { IfOk result (λ p. p.settings ≡ s) }
+    ensures inside { IfOk result (λ p. bucket < s.buckets) }
+    ensures refused { IfErr result (λ e. some (number_told e) ≡ first_met (settings_checks s ++ bucket_checks s bucket)) }
 {
-    if b < l {
-        let x = b + d;
-        if x < l { l + x } else { x }
-    } else {
-        let x = b - d;
-        if x < l { x } else { x - l }
-    }
-}
-
-// The first number by which settings and a bucket are refused, 0 where they pass.
-fn bucket_refusal(s: Settings, bucket: u32) -> u32
-    ensures { result ≡ number_of (first_met (settings_checks s ++ bucket_checks s bucket)) }
-{
-    let n = s.refusal();
-    if n != 0 {
-        return n;
-    }
+    let passed = s.passed()?;
     if bucket >= s.buckets {
-        return 8;
+        return Err(Refusal::Bucket);
     }
-    0
-}
-
-// The other candidate under the rules that have two, for offset d.
-fn partner(s: Settings, fingerprint: u16, d: u32, bucket: u32) -> u32
-    requires { (settings_refusal s ≡ none) × (s.rule ≢ 2) × (bucket < s.buckets) × (d ≡ offset_of s fingerprint) }
-    ensures { candidates_of s fingerprint bucket ≡ bucket ∷ result ∷ [] }
-{
-    let rule = s.rule;
-    let m = s.buckets;
-    if rule == 1 {
-        across(m / 2, d, bucket)
-    } else {
-        bucket ^ d
-    }
+    Ok(passed)
 }
 
 // The candidates of a fingerprint in a bucket, in order. An answer is put together in as few places as may be, by which the compiler
 // makes a lookup one piece.
-pub fn candidates(s: Settings, fingerprint: u16, bucket: u32) -> CandidateList
+pub fn candidates(s: Settings, fingerprint: u16, bucket: u32) -> Result<Candidates, Refusal>
     ensures { Lists result (candidates_answer s fingerprint bucket) }
 {
-    let n = bucket_refusal(s, bucket);
-    if n != 0 {
-        return CandidateList {
-            refusal: n,
-            count: 0,
-            buckets: [0; 4],
-        };
-    }
-    let d = offset_of(s, fingerprint);
+    let passed = checked_bucket(s, bucket)?;
+    let d = passed.offset(fingerprint);
     let rule = s.rule;
     if rule != 2 {
-        let other = partner(s, fingerprint, d, bucket);
-        return CandidateList {
-            refusal: 0,
+        let other = passed.partner(fingerprint, d, bucket);
+        return Ok(Candidates {
             count: 2,
             buckets: [bucket, other, 0, 0],
-        };
+        });
     }
     // what the mask leaves of the offset is the offset without what it takes
     let taken = d & s.mask;
     let last = bucket ^ d;
-    CandidateList {
-        refusal: 0,
+    Ok(Candidates {
         count: 4,
         buckets: [bucket, bucket ^ taken, last ^ taken, last],
-    }
+    })
 }

@@ -90,15 +90,5 @@ module _ {o e : List ℕ} {from at : ℕ} {all rest : List ℕ} (k : Left o e fr
   pub left-turn : {f a : List ℕ} {r : ℕ} (more : List ℕ) → Put e f at a r → rest ≡ a ++ more → Left o f from r all more
   left-turn more p s = left-before {n = 0} more (put-before p) s (omega arith)
 
-  -- the last part
-  pub left-fits : from + length all ≤ length o → at + length rest ≤ length e
-  left-fits h = omega (arith, k.place, k.long)
-
-  pub left-last : {f : List ℕ} {r : ℕ} → Put e f at rest r → Put o f from all r
-  left-last p = record {
-    output = p.output ∙ k.output;
-    place = p.place ∙ k.place;
-  }
-
   pub left-none : rest ≡ [] → Put o e from all at
   left-none s = record { output = sym (ap (sets e at) s) ∙ k.output; place = omega (arith, k.place, ap length s) }

@@ -3,7 +3,7 @@
 use mathlib.Core.Path.{◌≡◌, refl}
 use mathlib.Core.Bool.{false, ◌||◌, or-false, or_assoc}
 use mathlib.Core.List.{List, [], ◌∷◌}
-use Prim.Native.Nat.{ℕ, zero, suc, ◌+◌, ◌^◌, ◌≤◌, ◌<◌, min, max}
+use Prim.Native.Nat.{ℕ, zero, suc, ◌+◌, ◌^◌, ◌≤◌, ◌<◌, max}
 use native.Mathlib.Numerals.{add-one}
 use native.Mathlib.Omega.{arith}
 use borrow.Author.Tests.{leb-false}
@@ -17,7 +17,7 @@ use Rattle.rows.specs.Rows.{Ascends}
 use Rattle.calls.specs.WrittenForms.{any_from}
 use Rattle.packed_form.specs.Writer.{sort4, sort_buckets, code_of, stream_of}
 use Rattle.packed_form.proofs.Laws.{packed-laws}
-use Rattle.packed.specs.Internal.{BucketAsked, BucketAt}
+use Rattle.packed.specs.Internal.{Allowed, BucketAsked, BucketAt}
 
 -- ── four cells ──
 any_at : (n : ℕ) (l : List ℕ) (i : ℕ) → any_from n l ≡ false → i < length l → get_or l i 0 < n
@@ -25,14 +25,8 @@ any_at n [] i e h = absurd (omega arith)
 any_at n (v ∷ l) zero e h = leb-false n v (or-false-left (leb n v) (any_from n l) e)
 any_at n (v ∷ l) (suc i) e h = any_at n l i (or-false-right (leb n v) (any_from n l) e) (omega arith)
 
-pub sort-made : (a b c d : ℕ) {low high low2 high2 inner outer r0 r1 r2 r3 : ℕ}
-    → low ≡ min a b → high ≡ max a b → low2 ≡ min c d → high2 ≡ max c d → inner ≡ max low low2 → outer ≡ min high high2
-    → r0 ≡ min low low2 → r1 ≡ min inner outer → r2 ≡ max inner outer → r3 ≡ max high high2
-    → r0 ∷ r1 ∷ r2 ∷ r3 ∷ [] ≡ sort4 a b c d
-sort-made a b c d e1 e2 e3 e4 e5 e6 e7 e8 e9 e10 = rw (e7, e8, e9, e10, e5, e6, e1, e2, e3, e4) refl
-
 -- the bucket that starts at cell i, as f once it is sorted
-module _ {counts : List ℕ} {w : ℕ} {t : List ℕ} {i : ℕ} (A : BucketAsked counts w t i) {f : List ℕ}
+module _ {w : ℕ} (W : Allowed w) {t : List ℕ} {i : ℕ} (A : BucketAsked w t i) {f : List ℕ}
     (is : f ≡ sort4 (get_or t i 0) (get_or t (i + 1) 0) (get_or t (i + 2) 0) (get_or t (i + 3) 0)) where
   cell-fits : (j : ℕ) → j < i + 4 → get_or t j 0 < 2 ^ w
   cell-fits j h = any_at (2 ^ w) t j A.fits (omega (arith, A.inside))
@@ -47,7 +41,7 @@ module _ {counts : List ℕ} {w : ℕ} {t : List ℕ} {i : ℕ} (A : BucketAsked
   pub bucket-made : {code : ℕ} → code ≡ code_of w (get_or f 0 0) (get_or f 1 0) (get_or f 2 0) (get_or f 3 0) → BucketAt w t i code
   unfolding stream_of sort_buckets
   bucket-made z = record {
-    below = rw z (packed-laws.code_below w A.width.low (get_or f 0 0) (get_or f 1 0) (get_or f 2 0) (get_or f 3 0) sorted-asked.0 sorted-asked.1);
+    below = rw z (packed-laws.code_below w W.low (get_or f 0 0) (get_or f 1 0) (get_or f 2 0) (get_or f 3 0) sorted-asked.0 sorted-asked.1);
     first = rw (drop-four t i A.inside, z, is) refl;
   }
 

@@ -2,7 +2,7 @@
 -- rest of the stream gives, are what the whole stream gives.
 -- Assumes nothing.
 use mathlib.Core.Path.{◌≡◌, refl, sym, ap, ap₂, ◌∙◌, subst}
-use mathlib.Core.Bool.{Bool, true, false, not}
+use mathlib.Core.Bool.{Bool, true, false, not, ◌||◌, or-false, or_assoc}
 use mathlib.Core.Logic.{◌≢◌}
 use mathlib.Core.Option.{Option, none, some}
 use mathlib.Core.List.{List, [], ◌∷◌, ◌++◌, append_assoc, append-nil}
@@ -12,8 +12,7 @@ use native.Mathlib.Nat.{add-zero, mul-suc, mul-le-mul, div-one, div-eq_of_lt}
 use native.Mathlib.Numerals.{add-one}
 use native.Mathlib.Omega.{arith}
 use borrow.Author.Tests.{le-leb, lt-leb, eq-eqb, ne_eqb}
-use lib.Bits.{bit_and}
-use lib.Dec.{eqb, leb}
+use lib.Dec.{eqb, leb, ltb}
 use lib.ListN.{length, get_or, take, drop, length-append, length-drop}
 use lib.Pow.{shr-shr, field, mod-mod-pow}
 use lib.Seq.{get_or-drop, take_all}
@@ -22,23 +21,19 @@ use Rattle.lemmas.proofs.Bytes.{number-drop, number-below}
 use Rattle.refusals.specs.Checks.{check, first_met}
 use Rattle.refusals.specs.Outcomes.{Answer, refused, given, unless, outcome, keeping}
 use Rattle.refusals.proofs.Cursor.{by-check, by-none}
-use Rattle.index.specs.declared.Settings.{Settings}
 use Rattle.calls.specs.Cells.{filled_count}
-use Rattle.calls.specs.Calls.{Sound}
-use Rattle.packed_form.specs.Writer.{bucket_bits, length_of_packed}
-use Rattle.packed_form.specs.Reader.{bucket_from, code_checks, onward, unpack, with_count, read_packed}
+use Rattle.packed_form.specs.Writer.{bucket_bits}
+use Rattle.packed_form.specs.Reader.{bucket_from, descends, code_checks, onward, unpack, with_count}
 use Rattle.calls.proofs.Laws.{filled-laws}
 use Rattle.packed_form.proofs.Laws.{packed-laws}
-use Rattle.packed.specs.declared.UnpackAnswer.{UnpackAnswer}
-use Rattle.packed.specs.Answers.{unpack_is}
-use Rattle.packed.specs.Internal.{Width, Input, stream_from, code_in, count_in, Passes, CellsRead, CellsCounted, CellsStored}
-use Rattle.packed.proofs.Words.{masked}
-use Rattle.packed.proofs.Bytes.{half-bits, halved, ahead_within, put_front}
+use Rattle.packed.specs.declared.Unpacker.{Unpacker}
+use Rattle.packed.specs.Internal.{Allowed, bytes_for, stream_from, code_in, count_in, Passes, CellsRead, CellsCounted, CellsStored, Unpacked}
+use Rattle.packed.proofs.Bytes.{allowed, half-bits, half-fits, halved, bucket-within, ahead_within, put_front}
 
 -- ── the number of bucket b, from a word in which it lies ──
-pub code_read : {w : ℕ} → Width w → (b at skip : ℕ) → 8 * at + skip ≡ bucket_bits w * b → skip ≤ 4
+pub code_read : {w : ℕ} → Allowed w → (b at skip : ℕ) → 8 * at + skip ≡ bucket_bits w * b → skip ≤ 4
     → (bytes : List ℕ) → AllBytes bytes → {word : ℕ} → word ≡ number_from (drop at bytes) % 2 ^ 64
-    → bit_and (word / 2 ^ skip) (1 * 2 ^ (4 * (w - 1)) % 2 ^ 64 - 1) ≡ code_in w (number_from bytes) b
+    → word / 2 ^ skip % 2 ^ (4 * (w - 1)) ≡ code_in w (number_from bytes) b
 unfolding bucket_bits
 code_read {w} W b at skip place few bytes all {word} e =
     let size : ℕ = 4 * (w - 1) in
@@ -49,8 +44,7 @@ code_read {w} W b at skip place few bytes all {word} e =
     let s2 : 64 ≡ j + skip = omega arith in
     let s3 : j ≡ k + size = omega (arith, W.high) in
     let f : word ≡ y % 2 ^ (j + skip) = e ∙ ap₂ (λ (z n : ℕ). z % 2 ^ n) (sym (number-drop at bytes all)) s2 in
-    masked (word / 2 ^ skip) size (omega (arith, W.high))
-    ∙ ap (λ (z : ℕ). z / 2 ^ skip % 2 ^ size) f
+    ap (λ (z : ℕ). z / 2 ^ skip % 2 ^ size) f
     ∙ ap (λ (z : ℕ). z % 2 ^ size) (field y j skip)
     ∙ ap (λ (n : ℕ). y / 2 ^ skip % 2 ^ n % 2 ^ size) s3
     ∙ mod-mod-pow (y / 2 ^ skip) k size
@@ -64,6 +58,16 @@ pub second-place : (w p : ℕ) → 8 * ((w - 1) * p + (w - 1) / 2) + (w - 1) % 2
 second-place w p = omega (arith, half-bits w (2 * p + 1), halved w p 1)
 
 -- ── the input ──
+-- of the length that m buckets take
+pub record Input (w m : ℕ) (bytes : List ℕ) : Type 0 where
+  pub width : Allowed w
+  pub some : 1 ≤ m
+  pub few : m ≤ 65536
+  pub size : length bytes ≡ bytes_for w m
+
+pub input-of : (u : Unpacker) → Input u.width.bits u.buckets u.bytes.now
+input-of u = record { width = allowed u.width; some = u.some; few = u.few; size = u.size }
+
 module _ {w m : ℕ} {bytes : List ℕ} (I : Input w m bytes) where
   abbrev halves : ℕ
   halves = (w - 1) * m
@@ -76,8 +80,11 @@ module _ {w m : ℕ} {bytes : List ℕ} (I : Input w m bytes) where
       let e : 1 * 1 ≤ halves = mul-le-mul {n₁ = 1} {m₁ = 1} (omega (arith, I.width.low)) I.some in
       omega (arith, length-is)
 
-  pub pair_inside : {many p : ℕ} → 2 * many ≤ m - 4 → p < many → (w - 1) * p + (w - 1) / 2 + 8 ≤ length bytes
-  pair_inside few h = omega (arith, I.size, ahead_within I.width m few h)
+  pub pair_inside : {p : ℕ} → p < (m - 4) / 2 → (w - 1) * p + (w - 1) / 2 + 8 ≤ length bytes
+  pair_inside h = omega (arith, I.size, ahead_within I.width m {many = (m - 4) / 2} (omega arith) h)
+
+  pub bucket_inside : {b : ℕ} → b < m → ((w - 1) * b < 2 ^ 64) × ((w - 1) * b / 2 ≤ length bytes)
+  bucket_inside {b} h = (omega (arith, half-fits w b I.width.high (omega (arith, I.few))), omega (arith, I.size, bucket-within w m b h))
 
   -- ── the filling ──
   module _ (all : AllBytes bytes) where
@@ -113,10 +120,14 @@ module _ {w m : ℕ} {bytes : List ℕ} (I : Input w m bytes) where
         ]
 
 -- ── a bucket's four cells ──
--- read one by one
-pub as-four : (w code : ℕ) (l : List ℕ) → l ≡ bucket_from w code → get_or l 0 0 ∷ get_or l 1 0 ∷ get_or l 2 0 ∷ get_or l 3 0 ∷ [] ≡ bucket_from w code
-unfolding bucket_from
-as-four w code l e = ap (λ (k : List ℕ). get_or k 0 0 ∷ get_or k 1 0 ∷ get_or k 2 0 ∷ get_or k 3 0 ∷ []) e
+pub four-descend : (l : List ℕ) → length l ≡ 4
+    → (ltb (get_or l 1 0) (get_or l 0 0) || ltb (get_or l 2 0) (get_or l 1 0) || ltb (get_or l 3 0) (get_or l 2 0)) ≡ descends l
+four-descend (a ∷ b ∷ c ∷ d ∷ []) e = rw (or_assoc, or-false) refl
+four-descend [] e = absurd (omega arith)
+four-descend (a ∷ []) e = absurd (omega arith)
+four-descend (a ∷ b ∷ []) e = absurd (omega arith)
+four-descend (a ∷ b ∷ c ∷ []) e = absurd (omega arith)
+four-descend (a ∷ b ∷ c ∷ d ∷ x ∷ l) e = absurd (omega arith)
 
 four-length : (w code : ℕ) → length (bucket_from w code) ≡ 4
 unfolding bucket_from
@@ -193,17 +204,19 @@ pub counted_none : (w m x : ℕ) → CellsCounted w m x 0 0
 counted_none w m x = record { cells = []; read = read_none w m x; counted = refl }
 
 module _ {w m x count b : ℕ} (I : CellsCounted w m x count b) where
-  pub counted-few : count ≤ 4 * m
-  counted-few = omega (arith, I.counted, filled-laws.most I.cells, I.read.size, I.read.upto)
+  pub counted-fits : m ≤ 65536 → count < 2 ^ 64
+  counted-fits few = omega (arith, I.counted, filled-laws.most I.cells, I.read.size, I.read.upto)
 
-  module _ (more : b < m) {code : ℕ} (here : code ≡ code_in w x b) {found : UnpackAnswer}
-      (said : unpack_is found ≡ unless (first_met (code_checks w code)) (given (filled_count (bucket_from w code)))) where
-    pub counted-refused : (n : ℕ) → found ≡ UnpackAnswer.Refused n → unpack_is found ≡ count_in (unpack w m x)
-    counted-refused n e = ap unpack_is e ∙ ap count_in (read-refused I.read more here n (by-check (first_met (code_checks w code)) _ (sym (ap unpack_is e) ∙ said)))
+  module _ (more : b < m) {code : ℕ} (here : code ≡ code_in w x b) where
+    abbrev said : Answer ℕ
+    said = unless (first_met (code_checks w code)) (given (filled_count (bucket_from w code)))
 
-    module _ (n : ℕ) (e : found ≡ UnpackAnswer.Unpacked n) where
+    pub counted-refused : (n : ℕ) → refused n ≡ said → refused n ≡ count_in (unpack w m x)
+    counted-refused n e = ap count_in (read-refused I.read more here n (by-check (first_met (code_checks w code)) _ e))
+
+    module _ (n : ℕ) (e : given n ≡ said) where
       passed : (first_met (code_checks w code) ≡ none) × (n ≡ filled_count (bucket_from w code))
-      passed = by-none (first_met (code_checks w code)) (sym (ap unpack_is e) ∙ said)
+      passed = by-none (first_met (code_checks w code)) e
 
       pub counted-more : CellsCounted w m x (count + n) (b + 1)
       counted-more = record {
@@ -259,31 +272,21 @@ module _ {w m x : ℕ} {table : List ℕ} {b : ℕ} (passes : Passes (unpack w m
       go false e = read_all I.read end e
       go true e = absurd (subst Passes (sym (read-end I.read end true e)) passes)
 
--- ── the whole call, by what the first pass answers ──
-module _ {s : Settings} {bytes t : List ℕ} (S : Sound s t) (I : Input s.width s.buckets bytes) where
-  abbrev stream : Answer (List ℕ)
-  stream = unpack s.width s.buckets (number_from bytes)
-
-  goes_on : keeping t (with_count stream) ≡ read_packed s bytes t
-  unfolding length_of_packed
-  goes_on = packed-laws.read_goes_on s bytes t S I.size
-
-  pub call-stops : {a : UnpackAnswer} (n : ℕ) → a ≡ UnpackAnswer.Refused n → unpack_is a ≡ count_in stream → outcome (unpack_is a) t ≡ read_packed s bytes t
-  call-stops n e h = ap (λ (b : UnpackAnswer). outcome (unpack_is b) t) e ∙ go stream (sym (ap unpack_is e) ∙ h) ∙ goes_on
+-- ── both passes, by what the first answers ──
+module _ (u : Answer (List ℕ)) (n : ℕ) where
+  pub unpack-stops : (t : List ℕ) → refused n ≡ count_in u → Unpacked u t (refused n) t
+  unpack-stops t e = go u e
     where
-      go : (u : Answer (List ℕ)) → refused n ≡ count_in u → outcome (refused n) t ≡ keeping t (with_count u)
+      go : (u : Answer (List ℕ)) → refused n ≡ count_in u → Unpacked u t (refused n) t
       go (refused k) f = ap (λ (x : Answer ℕ). outcome x t) f
-      go (given l) f = absurd (let z : ◌≡◌ {A = ℕ} 0 1 = cc in omega arith)
+      go (given l) f = cc
 
-  pub call_passes : {a : UnpackAnswer} (n : ℕ) → a ≡ UnpackAnswer.Unpacked n → unpack_is a ≡ count_in stream → Passes stream
-  call_passes n e h = go stream (sym (ap unpack_is e) ∙ h)
+  pub unpack_passes : given n ≡ count_in u → Passes u
+  unpack_passes e = go u e
     where
       go : (u : Answer (List ℕ)) → given n ≡ count_in u → Passes u
-      go (refused k) f = absurd (let z : ◌≡◌ {A = ℕ} 0 1 = cc in omega arith)
+      go (refused k) f = cc
       go (given l) f = tt
 
-  pub call-stores : {a : UnpackAnswer} (n : ℕ) {o : List ℕ} → a ≡ UnpackAnswer.Unpacked n → unpack_is a ≡ count_in stream → given o ≡ stream
-      → outcome (given n) o ≡ read_packed s bytes t
-  call-stores n {o} e h f =
-      ap (λ (x : Answer ℕ). outcome x o) (sym (ap unpack_is e) ∙ h ∙ ap count_in (sym f))
-      ∙ ap (λ (u : Answer (List ℕ)). keeping t (with_count u)) f ∙ goes_on
+  pub unpack-stores : (t : List ℕ) {o : List ℕ} → given n ≡ count_in u → given o ≡ u → Unpacked u t (given n) o
+  unpack-stores t {o} e f = ap (λ (x : Answer ℕ). outcome x o) (e ∙ ap count_in (sym f)) ∙ ap (λ (v : Answer (List ℕ)). keeping t (with_count v)) f

@@ -16,67 +16,62 @@ use Rattle.rows.proofs.Rows.{rows_right}
 use Rattle.packed_form.specs.Writer.{high, low, code_of}
 use Rattle.packed_form.specs.Reader.{bucket_from}
 use Rattle.packed_form.proofs.Laws.{packed-laws}
-use Rattle.packed.specs.Internal.{Width}
+use Rattle.packed.specs.Internal.{Allowed}
 
 -- ── shifts and masks ──
 pub masked : (x k : ℕ) → k < 64 → bit_and x (1 * 2 ^ k % 2 ^ 64 - 1) ≡ x % 2 ^ k
 masked x k h = ap (λ (z : ℕ). bit_and x (z - 1)) (one_shifted k 64 h) ∙ and_mask x k
 
-pub shifted_one : (k : ℕ) → k < 64 → 1 ≤ 1 * 2 ^ k % 2 ^ 64
-shifted_one k h = subst (λ (z : ℕ). 1 ≤ z) (sym (one_shifted k 64 h)) (pow_pos k)
-
 few_bits : (n : ℕ) → n ≤ 12 → 2 ^ n ≤ 4096
 few_bits n h = pow_mono {j = 12} h
 
 -- x with n bits below it
-module _ (x n low : ℕ) (hx : x < 2 ^ 36) (hn : n ≤ 12) (hl : low < 2 ^ n) where
-  pub above-is : x * 2 ^ n % 2 ^ 64 + low ≡ low + 2 ^ n * x
+module _ (x n v : ℕ) (hx : x < 2 ^ 36) (hn : n ≤ 12) where
+  pub above-is : x * 2 ^ n % 2 ^ 64 + v % 2 ^ n ≡ v % 2 ^ n + 2 ^ n * x
   above-is = omega (arith, shl_exact {a = x} 36 n 64 hx (omega arith), mul_comm x (2 ^ n))
 
-  pub above-fits : x * 2 ^ n % 2 ^ 64 + low < 2 ^ 64
-  above-fits = omega (arith, above-is, few_bits n hn, mul-le-mul_right x (few_bits n hn))
+  pub above-fits : x * 2 ^ n % 2 ^ 64 + v % 2 ^ n < 2 ^ 64
+  above-fits = omega (arith, above-is, few_bits n hn, mul-le-mul_right x (few_bits n hn), mod-lt v (pow_pos n))
 
 -- ── the code of a sorted bucket ──
-module _ {w : ℕ} (W : Width w) where
+module _ {w : ℕ} (W : Allowed w) where
   abbrev N : ℕ
   N = 2 ^ (w - 4)
 
   abbrev part : ℕ → ℕ
-  part v = bit_and v (1 * 2 ^ (w - 4) % 2 ^ 64 - 1)
-
-  part-is : (v : ℕ) → part v ≡ low w v
-  part-is v = masked v (w - 4) (omega (arith, W.high))
+  part v = low w v
 
   part-few : N ≤ 4096
   part-few = few_bits (w - 4) (omega (arith, W.high))
 
   pub part-below : (v : ℕ) → part v < N
-  part-below v = subst (λ (z : ℕ). z < N) (sym (part-is v)) (mod-lt v (pow_pos (w - 4)))
+  part-below v = mod-lt v (pow_pos (w - 4))
 
   -- what stands above a low part, however many there are of them
   grown : (v t K : ℕ) → t < K → part v + N * t < 4096 * K
   grown v t K k = omega (arith, part-below v, part-few, mul-le-mul_right t part-few)
 
-  pub one_below : (d : ℕ) → part d < 2 ^ 36
-  one_below d = omega (arith, part-below d, part-few)
+  module _ (a b c d : ℕ) {one : ℕ} (e1 : one ≡ part d + N * 0) where
+    one-is : one ≡ part d
+    one-is = omega arith
 
-  module _ (a b c d : ℕ) {two : ℕ} (e2 : two ≡ part c + N * part d) where
-    pub two-below : two < 2 ^ 36
-    two-below = rw e2 (omega (arith, grown c (part d) 4096 (omega (arith, part-below d, part-few))))
+    few-one : one < 4096
+    few-one = omega (arith, one-is, part-below d, part-few)
 
-    module _ {three : ℕ} (e3 : three ≡ part b + N * two) where
-      pub three-below : three < 2 ^ 36
-      three-below = rw e3 (grown b two (2 ^ 24) (rw e2 (grown c (part d) 4096 (omega (arith, part-below d, part-few)))))
+    module _ {two : ℕ} (e2 : two ≡ part c + N * one) where
+      module _ {three : ℕ} (e3 : three ≡ part b + N * two) where
+        pub three-below : three < 2 ^ 36
+        three-below = rw e3 (grown b two (2 ^ 24) (rw e2 (grown c one 4096 few-one)))
 
-      module _ {four : ℕ} (e4 : four ≡ part a + N * three) where
-        pub four_below : four < 2 ^ 48
-        four_below = rw e4 (grown a three (2 ^ 36) three-below)
+        module _ {four : ℕ} (e4 : four ≡ part a + N * three) where
+          pub four_below : four < 2 ^ 48
+          four_below = rw e4 (grown a three (2 ^ 36) three-below)
 
-        pub code_is : Ascends a b c d → d < 2 ^ w → {row : ℕ} → row ≡ rank_of (high w a) (high w b) (high w c) (high w d) → four * 4096 + row ≡ code_of w a b c d
-        unfolding code_of
-        code_is h k e =
-            let q = packed-laws.highs w W.low a b c d h k in
-            rw (e4, e3, e2, part-is a, part-is b, part-is c, part-is d, e, rank-is-row _ _ _ _ q.0 q.1) (omega arith)
+          pub code_is : Ascends a b c d → d < 2 ^ w → {row : ℕ} → row ≡ rank_of (high w a) (high w b) (high w c) (high w d) → four * 4096 + row ≡ code_of w a b c d
+          unfolding code_of
+          code_is h k e =
+              let q = packed-laws.highs w W.low a b c d h k in
+              rw (e4, e3, e2, one-is, e, rank-is-row _ _ _ _ q.0 q.1) (omega arith)
 
 -- ── four parts of 16 bits ──
 abbrev lanes : ℕ → ℕ → ℕ → ℕ → ℕ
@@ -94,7 +89,7 @@ module _ (n x : ℕ) (few : n ≤ 12) where
   x1 = x / 2 ^ (n * 2) % 2 ^ (n * 2)
 
   abbrev pairs : ℕ
-  pairs = bit_and x (1 * 2 ^ (n * 2) % 2 ^ 64 - 1) + bit_and (x / 2 ^ (n * 2)) (1 * 2 ^ (n * 2) % 2 ^ 64 - 1) * 4294967296
+  pairs = x0 + x1 * 4294967296
 
   abbrev lower : ℕ
   lower = bit_and pairs ((1 * 2 ^ n % 2 ^ 64 - 1) * 4294967297)
@@ -103,7 +98,7 @@ module _ (n x : ℕ) (few : n ≤ 12) where
   small y = lt_of_lt_of_le (mod-lt y (pow_pos (n * 2))) (pow_mono {j = 24} (omega arith))
 
   pairs-are : pairs ≡ x1 * 4294967296 + x0
-  pairs-are = omega (arith, masked x (n * 2) (omega arith), masked (x / 2 ^ (n * 2)) (n * 2) (omega arith))
+  pairs-are = omega arith
 
   lower-is : lower ≡ x1 % size * 4294967296 + x0 % size
   lower-is =
@@ -112,15 +107,6 @@ module _ (n x : ℕ) (few : n ≤ 12) where
       ap₂ bit_and pairs-are e
       ∙ and_block 32 x1 m x0 m (omega (arith, small x)) (omega (arith, few_bits n few))
       ∙ ap₂ (λ (a b : ℕ). a * 4294967296 + b) (and_mask x1 n) (and_mask x0 n)
-
-  pub one-fits : (1 * 2 ^ n % 2 ^ 64 - 1) * 4294967297 < 2 ^ 64
-  one-fits = omega (arith, one_shifted n 64 (omega arith), few_bits n few)
-
-  pub second-fits64 : bit_and (x / 2 ^ (n * 2)) (1 * 2 ^ (n * 2) % 2 ^ 64 - 1) * 4294967296 < 2 ^ 64
-  second-fits64 = omega (arith, masked (x / 2 ^ (n * 2)) (n * 2) (omega arith), small (x / 2 ^ (n * 2)))
-
-  pub pairs-fit : pairs < 2 ^ 64
-  pairs-fit = omega (arith, pairs-are, small x, small (x / 2 ^ (n * 2)))
 
   pub lower-within : lower ≤ pairs
   lower-within = and_le_l pairs ((1 * 2 ^ n % 2 ^ 64 - 1) * 4294967297)
@@ -235,7 +221,7 @@ lanes-have a b c d ha hb hc hd =
       apart = rw (e2, e3, digit-rest 65536 a j ha, digit-rest 65536 b k hb, digit-rest 65536 c d hc, digit-first 65536 a j ha, digit-first 65536 b k hb, digit-first 65536 c d hc) refl;
     }
 
-module _ (w code : ℕ) (l : List ℕ) (table : l ≡ rows) (W : Width w) (row : code % 4096 < 3876) where
+module _ (w code : ℕ) (l : List ℕ) (table : l ≡ rows) (W : Allowed w) (row : code % 4096 < 3876) where
   abbrev q : ℕ
   q = get_or l (code % 4096) 0
 

@@ -1,16 +1,15 @@
 -- Contracts of the functions inside: a bucket's number, pairs of buckets put to the output, and the reader's two passes over the input.
 -- Assumes nothing.
 use Rattle.std.specs.Prelude.{◌≡◌, Bool, true, false, List, ◌++◌, ℕ, ◌+◌, ◌*◌, ◌-◌, ◌/◌, ◌%◌, ◌^◌, ◌≤◌, ◌<◌, length, take, drop}
-use Rattle.lemmas.specs.Bytes.{bytes_of, number_from}
-use Rattle.refusals.specs.Outcomes.{Answer, refused, given}
+use Rattle.lemmas.specs.Bytes.{bytes_of}
+use Rattle.refusals.specs.Outcomes.{Answer, refused, given, outcome, keeping}
 use Rattle.calls.specs.Cells.{filled_count}
 use Rattle.calls.specs.WrittenForms.{any_from}
-use Rattle.rows.specs.Rows.{rows, larger}
 use Rattle.packed_form.specs.Writer.{sort_buckets, bucket_bits, stream_of}
-use Rattle.packed_form.specs.Reader.{onward, unpack}
+use Rattle.packed_form.specs.Reader.{onward, unpack, with_count}
 
 -- a width that settings which pass can have
-pub record Width (w : ℕ) : Type 0 where
+pub record Allowed (w : ℕ) : Type 0 where
   pub low : 4 ≤ w
   pub high : w ≤ 16
 
@@ -23,10 +22,8 @@ bytes_for w m = (bucket_bits w * m + 7) / 8
 abbrev pub stream_at : ℕ → List ℕ → ℕ → ℕ
 stream_at w c i = stream_of w (sort_buckets (drop i c))
 
--- four cells that fit, and the counts by which a row is found
-pub record BucketAsked (counts : List ℕ) (w : ℕ) (c : List ℕ) (i : ℕ) : Type 0 where
-  pub counts_are : counts ≡ larger
-  pub width : Width w
+-- four cells, and a table whose cells fit
+pub record BucketAsked (w : ℕ) (c : List ℕ) (i : ℕ) : Type 0 where
   pub inside : i + 4 ≤ length c
   pub fits : any_from (2 ^ w) c ≡ false
 
@@ -35,50 +32,27 @@ pub record BucketAt (w : ℕ) (c : List ℕ) (i code : ℕ) : Type 0 where
   pub below : code < 2 ^ bucket_bits w
   pub first : stream_at w c i ≡ code + 2 ^ bucket_bits w * stream_at w c (i + 4)
 
--- two buckets' numbers, and a place for their w − 1 bytes, or for two words
-pub record PairFits (w one two at room : ℕ) (words : Bool) (out : List ℕ) : Type 0 where
-  pub width : Width w
+-- two buckets' numbers, and room for their w − 1 bytes, or for two words
+pub record PairFits (w one two : ℕ) (words : Bool) (room : ℕ) : Type 0 where
   pub first : one < 2 ^ bucket_bits w
   pub second : two < 2 ^ bucket_bits w
-  pub inside : at + (w - 1) ≤ room
-  pub enough : room ≤ length out
-  pub few : room < 2 ^ 32
-  pub ahead : words ≡ true → at + (w - 1) / 2 + 8 ≤ room
-
--- they follow what stood before the place, and what stands past the room is as it was
-pub record PairPut (w one two at room : ℕ) (out out' : List ℕ) : Type 0 where
-  pub front : take (at + (w - 1)) out' ≡ take at out ++ bytes_of (w - 1) (one + 2 ^ bucket_bits w * two)
-  pub past : drop room out' ≡ drop room out
+  pub inside : w - 1 ≤ room
+  pub ahead : words ≡ true → (w - 1) / 2 + 8 ≤ room
 
 -- pairs of buckets from one to another, and room for them, or for two words of each
-pub record RunFits (counts : List ℕ) (w : ℕ) (c : List ℕ) (room from to : ℕ) (words : Bool) (out : List ℕ) : Type 0 where
-  pub counts_are : counts ≡ larger
-  pub width : Width w
+pub record RunFits (w : ℕ) (c : List ℕ) (room from to : ℕ) (words : Bool) : Type 0 where
   pub fits : any_from (2 ^ w) c ≡ false
   pub cells : 8 * to ≤ length c
   pub order : from ≤ to
   pub inside : (w - 1) * to ≤ room
-  pub enough : room ≤ length out
   pub few : room < 2 ^ 32
   pub ahead : words ≡ true → (p : ℕ) → p < to → (w - 1) * p + (w - 1) / 2 + 8 ≤ room
 
 -- what is out after so many pairs, continued by the bytes of the buckets still to come
-abbrev pub formed : ℕ → List ℕ → ℕ → ℕ → List ℕ → List ℕ
-formed w c room p out = take ((w - 1) * p) out ++ bytes_of (room - (w - 1) * p) (stream_at w c (8 * p))
-
--- they were put, and what stands past the room is as it was
-pub record RunPut (w : ℕ) (c : List ℕ) (room from : ℕ) (out : List ℕ) (to : ℕ) (out' : List ℕ) : Type 0 where
-  pub front : formed w c room to out' ≡ formed w c room from out
-  pub past : drop room out' ≡ drop room out
+abbrev pub formed : ℕ → List ℕ → ℕ → List ℕ → List ℕ
+formed w c p out = take ((w - 1) * p) out ++ bytes_of (length out - (w - 1) * p) (stream_at w c (8 * p))
 
 -- ── the reader ──
--- an input of the length that m buckets take
-pub record Input (w m : ℕ) (bytes : List ℕ) : Type 0 where
-  pub width : Width w
-  pub some : 1 ≤ m
-  pub few : m ≤ 65536
-  pub size : length bytes ≡ bytes_for w m
-
 -- the stream from bucket b on, and that bucket's number
 abbrev pub stream_from : ℕ → ℕ → ℕ → ℕ
 stream_from w x b = x / 2 ^ (bucket_bits w * b)
@@ -114,8 +88,10 @@ pub record CellsStored (w m x : ℕ) (table : List ℕ) (b : ℕ) : Type 0 where
   pub read : CellsRead w m x b (take (4 * b) table)
 
 -- what the second pass is given
-pub record Storing (quads : List ℕ) (w m : ℕ) (bytes table : List ℕ) : Type 0 where
-  pub quads_are : quads ≡ rows
-  pub input : Input w m bytes
+pub record Storing (w m x : ℕ) (table : List ℕ) : Type 0 where
   pub size : length table ≡ 4 * m
-  pub passes : Passes (unpack w m (number_from bytes))
+  pub passes : Passes (unpack w m x)
+
+-- both passes: what the call of the reader answers and leaves, for what the whole stream gives
+abbrev pub Unpacked : Answer (List ℕ) → List ℕ → Answer ℕ → List ℕ → Type 0
+Unpacked u t a c = outcome a c ≡ keeping t (with_count u)

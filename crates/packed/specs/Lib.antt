@@ -1,4 +1,3 @@
--- What a reader has to believe of the packed form's code, whose definitions stand in packed_form: what its answers say. Internal is for
--- the functions inside.
-pub mod Answers
+-- The packed form's code, whose definitions stand in packed_form, says its contracts by those and by Internal, which is for the functions
+-- inside.
 pub mod Internal

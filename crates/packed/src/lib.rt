@@ -1,11 +1,12 @@
 // The packed form of a table: semi-sorted buckets as a stream of bits, and back.
 #![tactic(auto)]
 
-ghost use Rattle.std.specs.Prelude.{◌≡◌, not, cond, [], ◌∷◌, ◌++◌, ◌+◌, ◌*◌, ◌-◌, ◌/◌, ◌%◌, ◌^◌, ◌<◌, ◌≤◌, min, max, eqb, length, get_or, take, drop};
+ghost use Rattle.std.specs.Prelude.{◌≡◌, not, cond, [], ◌∷◌, ◌++◌, ◌+◌, ◌*◌, ◌-◌, ◌/◌, ◌%◌, ◌^◌, ◌<◌, ◌≤◌, min, max, eqb, length, get_or, take, drop, ℕ};
 ghost use Rattle.std.proofs.Math.Option.{none};
 ghost use Rattle.lemmas.specs.Bytes.{bytes_of, number_from};
 ghost use Rattle.refusals.specs.Checks.{first_met};
 ghost use Rattle.refusals.specs.Outcomes.{given, unless, outcome};
+ghost use Rattle.refusals.specs.Refusals.{told};
 ghost use Rattle.index.specs.Settings.{settings_refusal};
 ghost use Rattle.rows.specs.Rows.{rows as all_rows, larger, Ascends, rank_of};
 ghost use Rattle.calls.specs.Cells.{filled_count};
@@ -13,167 +14,167 @@ ghost use Rattle.calls.specs.WrittenForms.{any_from};
 ghost use Rattle.packed_form.specs.Writer.{sort4, code_of, bucket_bits, length_of_packed, packed_of, write_packed};
 ghost use Rattle.packed_form.specs.Reader.{bucket_from, descends, code_checks, unpack, read_packed};
 ghost use Rattle.packed_form.specs.RoundTrip.{Packable};
-ghost use Rattle.packed.specs.Answers.{pack_is, unpack_is};
-ghost use Rattle.packed.specs.Internal.{Width, BucketAsked, BucketAt, PairFits, PairPut, RunFits, RunPut, Input, code_in, count_in, CellsCounted, CellsStored, Storing};
+ghost use Rattle.packed.specs.Internal.{bytes_for, BucketAsked, BucketAt, PairFits, RunFits, formed, stream_from, code_in, count_in, CellsCounted, CellsStored, Storing, Unpacked};
 
 use index::Settings;
+use refusals::Refusal;
 
-// The byte count, or the number of the refusal.
+// A width that settings which pass can have.
 #[derive(Clone, Copy)]
-pub enum PackAnswer {
-    Packed(usize),
-    Refused(u32),
-}
-
-// The number of filled cells, or the number of the refusal.
-#[derive(Clone, Copy)]
-pub enum UnpackAnswer {
-    Unpacked(usize),
-    Refused(u32),
-}
-
-fn lesser(x: u64, y: u64) -> u64
-    ensures { result ≡ min x y }
-{
-    if x < y { x } else { y }
-}
-
-fn greater(x: u64, y: u64) -> u64
-    ensures { result ≡ max x y }
-{
-    if x < y { y } else { x }
+struct Width {
+    bits: u32,
+    ghost low: { 4 ≤ bits },
+    ghost high: { bits ≤ 16 },
 }
 
 // A bucket's cells in ascending order.
 fn sorted(a: u64, b: u64, c: u64, d: u64) -> [u64; 4]
     ensures { result ≡ sort4 a b c d }
 {
-    let low = lesser(a, b);
-    let high = greater(a, b);
-    let low2 = lesser(c, d);
-    let high2 = greater(c, d);
-    let inner = greater(low, low2);
-    let outer = lesser(high, high2);
+    let low = a.min(b);
+    let high = a.max(b);
+    let low2 = c.min(d);
+    let high2 = c.max(d);
+    let inner = low.max(low2);
+    let outer = high.min(high2);
     [
-        lesser(low, low2),
-        lesser(inner, outer),
-        greater(inner, outer),
-        greater(high, high2),
+        low.min(low2),
+        inner.min(outer),
+        inner.max(outer),
+        high.max(high2),
     ]
 }
 
-// x with n bits put below it.
-fn above(x: u64, n: u32, low: u64) -> u64
-    requires { (x < 2 ^ 36) × (n ≤ 12) × (low < 2 ^ n) }
-    ensures { result ≡ low + 2 ^ n * x }
+// The low n bits of x.
+fn low(x: u64, n: u32) -> u64
+    requires { n < 64 }
+    ensures { result ≡ x % 2 ^ n }
 {
-    (x << n) + low
+    x & ((1u64 << n) - 1)
 }
 
-// The row of an ascending quadruple of nibbles, by counting from the end: the rows whose first nibble is
-// larger, those that have the same first and a larger second, and so on.
-fn row_from(counts: &[u16; 48], a: u64, b: u64, c: u64, d: u64) -> u64
-    requires { (counts.now ≡ larger) × (a < 16) × (b < 16) × (c < 16) × (d < 16) }
-    ensures { result ≡ rank_of a b c d }
+// x with the low n bits of v put below it.
+fn above(x: u64, n: u32, v: u64) -> u64
+    requires { (x < 2 ^ 36) × (n ≤ 12) }
+    ensures { result ≡ v % 2 ^ n + 2 ^ n * x }
 {
-    let i = a as usize;
-    let j = (b + 16) as usize;
-    let k = (c + 32) as usize;
-    let first = counts[i] as u64;
-    let second = counts[j] as u64;
-    let third = counts[k] as u64;
-    3860 + d - first - second - third
+    (x << n) + low(v, n)
 }
 
-// A sorted bucket as a number: its row, and above that the four low parts.
-fn code_of(counts: &[u16; 48], w: u32, a: u64, b: u64, c: u64, d: u64) -> u64
-    requires { (counts.now ≡ larger) × Width w × Ascends a b c d × (d < 2 ^ w) }
-    ensures { result ≡ code_of w a b c d }
-{
-    let n = w - 4;
-    let row = row_from(counts, a >> n, b >> n, c >> n, d >> n);
-    let mask = (1u64 << n) - 1;
-    let two = above(d & mask, n, c & mask);
-    let three = above(two, n, b & mask);
-    let four = above(three, n, a & mask);
-    four * 4096 + row
+// What the writer makes a bucket's number by: the width, and the counts by which a row is found.
+#[derive(Clone, Copy)]
+struct Packer<'a> {
+    width: Width,
+    counts: &'a [u16; 48],
+    ghost counts_are: { counts.now ≡ larger },
 }
 
-// The same, with the usual widths as literals: the shifts are then by constants.
-fn code_by(counts: &[u16; 48], w: u32, a: u64, b: u64, c: u64, d: u64) -> u64
-    requires { (counts.now ≡ larger) × Width w × Ascends a b c d × (d < 2 ^ w) }
-    ensures { result ≡ code_of w a b c d }
-{
-    if w == 16 {
-        return code_of(counts, 16, a, b, c, d);
+impl Packer<'_> {
+    // The row of an ascending quadruple of nibbles, by counting from the end: the rows whose first nibble is
+    // larger, those that have the same first and a larger second, and so on.
+    fn row_from(self, a: u64, b: u64, c: u64, d: u64) -> u64
+        requires { (a < 16) × (b < 16) × (c < 16) × (d < 16) }
+        ensures { result ≡ rank_of a b c d }
+    {
+        let counts = self.counts;
+        let i = a as usize;
+        let j = (b + 16) as usize;
+        let k = (c + 32) as usize;
+        let first = counts[i] as u64;
+        let second = counts[j] as u64;
+        let third = counts[k] as u64;
+        3860 + d - first - second - third
     }
-    if w == 12 {
-        return code_of(counts, 12, a, b, c, d);
-    }
-    code_of(counts, w, a, b, c, d)
-}
 
-// The number of the bucket that starts at a cell, once it is sorted.
-fn bucket_code(counts: &[u16; 48], w: u32, table: &[u16], at: usize) -> u64
-    requires { BucketAsked counts.now w table.now at }
-    ensures { BucketAt w table.now at result }
-{
-    let a = table[at] as u64;
-    let b = table[at + 1] as u64;
-    let c = table[at + 2] as u64;
-    let d = table[at + 3] as u64;
-    let f = sorted(a, b, c, d);
-    code_by(counts, w, f[0], f[1], f[2], f[3])
+    // A sorted bucket as a number: its row, and above that the four low parts.
+    fn code_of(self, a: u64, b: u64, c: u64, d: u64) -> u64
+        requires { Ascends a b c d × (d < 2 ^ self.width.bits) }
+        ensures { result ≡ code_of self.entry.width.bits a b c d }
+    {
+        let n = self.width.bits - 4;
+        let row = self.row_from(a >> n, b >> n, c >> n, d >> n);
+        let one = above(0, n, d);
+        let two = above(one, n, c);
+        let three = above(two, n, b);
+        let four = above(three, n, a);
+        four * 4096 + row
+    }
+
+    // The same, with the usual widths as literals: the shifts are then by constants.
+    fn code_by(self, a: u64, b: u64, c: u64, d: u64) -> u64
+        requires { Ascends a b c d × (d < 2 ^ self.width.bits) }
+        ensures { result ≡ code_of self.entry.width.bits a b c d }
+    {
+        let counts = self.counts;
+        match self.width.bits {
+            16 => Packer {
+                width: Width { bits: 16 },
+                counts,
+            }
+            .code_of(a, b, c, d),
+            12 => Packer {
+                width: Width { bits: 12 },
+                counts,
+            }
+            .code_of(a, b, c, d),
+            _ => self.code_of(a, b, c, d),
+        }
+    }
+
+    // The number of the bucket that starts at a cell, once it is sorted.
+    fn bucket_code(self, table: &[u16], at: usize) -> u64
+        requires { BucketAsked self.width.bits table.now at }
+        ensures { BucketAt self.entry.width.bits table.now at result }
+    {
+        let a = table[at] as u64;
+        let b = table[at + 1] as u64;
+        let c = table[at + 2] as u64;
+        let d = table[at + 3] as u64;
+        let f = sorted(a, b, c, d);
+        self.code_by(f[0], f[1], f[2], f[3])
+    }
+
+    // The pairs of buckets from one to another, sorted, to the output.
+    fn write_run(self, table: &[u16], out: &mut [u8], from: usize, to: usize, words: bool)
+        requires { RunFits self.width.bits table.now (length out.old) from to words }
+        ensures { formed self.entry.width.bits table.now to out.new ≡ formed self.entry.width.bits table.now from out.old }
+    {
+        let step = (self.width.bits - 1) as usize;
+        for p in from..to {
+            let one = self.bucket_code(table, 8 * p);
+            let two = self.bucket_code(table, 8 * p + 4);
+            write_pair(&mut out[step * p..], self.width, one, two, words);
+        }
+    }
 }
 
 // The low bytes of a word, to the start of a part of the output.
 fn emit(part: &mut [u8], word: u64, count: usize)
-    requires { count ≤ length part.old }
+    requires { (count ≤ 8) × (count ≤ length part.old) }
     ensures { part.new ≡ bytes_of count word ++ drop count part.old }
 {
-    let mut x = word;
-    let mut i = 0;
-    while i < count {
-        part[i] = (x % 256) as u8;
-        x = x / 256;
-        i += 1;
-    }
+    part[..count].copy_from_slice(&word.to_le_bytes()[..count]);
 }
 
-// All the bytes of a word: in a row, they become one store.
-fn emit_word(part: &mut [u8], word: u64)
-    requires { 8 ≤ length part.old }
-    ensures { part.new ≡ bytes_of 8 word ++ drop 8 part.old }
+// Two buckets to the start of a part of the output: they take w − 1 whole bytes. As words, where these fit the part:
+// their bytes past the two buckets belong to later ones.
+fn write_pair(part: &mut [u8], width: Width, one: u64, two: u64, words: bool)
+    requires { PairFits width.bits one two words (length part.old) }
+    ensures { take (width.bits - 1) part.new ≡ bytes_of (width.bits - 1) (one + 2 ^ bucket_bits width.bits * two) }
 {
-    part[0] = (word % 256) as u8;
-    part[1] = (word / 256 % 256) as u8;
-    part[2] = (word / 65536 % 256) as u8;
-    part[3] = (word / 16777216 % 256) as u8;
-    part[4] = (word / 4294967296 % 256) as u8;
-    part[5] = (word / 1099511627776 % 256) as u8;
-    part[6] = (word / 281474976710656 % 256) as u8;
-    part[7] = (word / 72057594037927936) as u8;
-}
-
-// Two buckets to the output: they take w − 1 whole bytes. As words, where these fit the room: their bytes
-// past the two buckets belong to later ones. What stands past the room stays.
-fn write_pair(out: &mut [u8], room: usize, at: usize, w: u32, one: u64, two: u64, words: bool)
-    requires { PairFits w one two at room words out.old }
-    ensures { PairPut w one two at room out.old out.new }
-{
+    let w = width.bits;
     let half = (w - 1) / 2;
     let skip = (w - 1) % 2 * 4;
     let first = half as usize;
     let last = (w - 1 - half) as usize;
-    let next = at + first;
     let rest = (one >> (half * 8)) + (two << skip);
     if words {
-        emit_word(&mut out[at..], one);
-        emit_word(&mut out[next..], rest);
+        emit(part, one, 8);
+        emit(&mut part[first..], rest, 8);
         return;
     }
-    emit(&mut out[at..], one, first);
-    emit(&mut out[next..], rest, last);
+    emit(part, one, first);
+    emit(&mut part[first..], rest, last);
 }
 
 // How many pairs of buckets have two pairs after them. Three pairs take nine bytes or more, so that a word
@@ -181,75 +182,42 @@ fn write_pair(out: &mut [u8], room: usize, at: usize, w: u32, one: u64, two: u64
 fn ahead(m: usize) -> usize
     ensures { result ≡ (m - 4) / 2 }
 {
-    if m < 4 { 0 } else { (m - 4) / 2 }
+    m.saturating_sub(4) / 2
 }
 
-// The pairs from one to another, sorted, to the output.
-fn write_run(
-    counts: &[u16; 48],
-    w: u32,
-    table: &[u16],
-    out: &mut [u8],
-    room: usize,
-    from: usize,
-    to: usize,
-    words: bool,
-)
-    requires { RunFits counts.now w table.now room from to words out.old }
-    ensures { RunPut w table.now room from out.old to out.new }
+// Every bucket, sorted, to an output of their length: two at a time, and by words as far as these fit. Only a table of
+// one bucket has none to go with it.
+fn write_buckets(s: Settings, table: &[u16], out: &mut [u8])
+    requires { Packable s table.now × (length out.old ≡ length_of_packed s) }
+    ensures { out.new ≡ packed_of s table.now }
 {
-    let step = (w - 1) as usize;
-    let mut p = from;
-    while p < to {
-        let at = step * p;
-        let one = bucket_code(counts, w, table, 8 * p);
-        let two = bucket_code(counts, w, table, 8 * p + 4);
-        write_pair(out, room, at, w, one, two, words);
-        p += 1;
-    }
-}
-
-// Every bucket, sorted, to the output: two at a time, and by words as far as these fit. Only a table of one
-// bucket has none to go with it.
-fn write_buckets(s: Settings, table: &[u16], out: &mut [u8]) -> usize
-    requires { Packable s table.now × (length_of_packed s ≤ length out.old) }
-    ensures { (result ≡ length_of_packed s) × (out.new ≡ packed_of s table.now ++ drop (length_of_packed s) out.old) }
-{
-    let w = s.width;
     let m = s.buckets as usize;
-    let room = packed_length(s);
     let counts = rows::counts();
+    let width = Width { bits: s.width };
+    let packer = Packer {
+        width,
+        counts: &counts,
+    };
     let pairs = m / 2;
     let many = ahead(m);
-    write_run(&counts, w, table, out, room, 0, many, true);
-    write_run(&counts, w, table, out, room, many, pairs, false);
+    packer.write_run(table, out, 0, many, true);
+    packer.write_run(table, out, many, pairs, false);
     if m % 2 == 1 {
-        let at = ((w - 1) as usize) * pairs;
-        let one = bucket_code(&counts, w, table, 8 * pairs);
-        emit(&mut out[at..], one, (w / 2) as usize);
-        return room;
+        let at = ((s.width - 1) as usize) * pairs;
+        let one = packer.bucket_code(table, 8 * pairs);
+        emit(&mut out[at..], one, (s.width / 2) as usize);
     }
-    room
-}
-
-fn higher(x: u16, y: u16) -> u16
-    ensures { result ≡ max x y }
-{
-    if x < y { y } else { x }
 }
 
 // Whether some cell does not fit the width: the highest tells.
-fn too_wide(w: u32, table: &[u16]) -> bool
-    requires { Width w }
-    ensures { result ≡ any_from (2 ^ w) table.now }
+fn too_wide(width: Width, table: &[u16]) -> bool
+    ensures { result ≡ any_from (2 ^ width.bits) table.now }
 {
-    let mut top = 0;
-    let mut i = 0;
-    while i < table.len() {
-        top = higher(top, table[i]);
-        i += 1;
+    let mut top = 0u16;
+    for v in table {
+        top = top.max(*v);
     }
-    (top as u32) >= (1u32 << w)
+    u32::from(top) >= 1u32 << width.bits
 }
 
 // How many bytes the buckets take.
@@ -263,112 +231,40 @@ fn packed_length(s: Settings) -> usize
     (size * m + 7) / 8
 }
 
-// The packed form of a table to the output, whose later bytes stay as they are.
-pub fn write(s: Settings, table: &[u16], out: &mut [u8]) -> PackAnswer
-    ensures { outcome (pack_is result) out.new ≡ write_packed s table.now out.old }
+// The packed form of a table to the output, whose later bytes stay as they are: how many bytes it has.
+pub fn write(s: Settings, table: &[u16], out: &mut [u8]) -> Result<usize, Refusal>
+    ensures { outcome (told result) out.new ≡ write_packed s table.now out.old }
 {
-    let n = table::table_refusal(s, table);
-    if n != 0 {
-        return PackAnswer::Refused(n);
-    }
-    if too_wide(s.width, table) {
-        return PackAnswer::Refused(17);
+    table::table_check(s, table)?;
+    if too_wide(Width { bits: s.width }, table) {
+        return Err(Refusal::WideCell);
     }
     let needed = packed_length(s);
     if out.len() < needed {
-        return PackAnswer::Refused(16);
+        return Err(Refusal::Output);
     }
-    PackAnswer::Packed(write_buckets(s, table, out))
+    write_buckets(s, table, &mut out[..needed]);
+    Ok(needed)
 }
 
-// The number of eight bytes, the first lowest.
-fn number(a: u8, b: u8, c: u8, d: u8, e: u8, f: u8, g: u8, h: u8) -> u64
-    ensures { result ≡ a + 256 * (b + 256 * (c + 256 * (d + 256 * (e + 256 * (f + 256 * (g + 256 * h)))))) }
-{
-    let low = (a as u64) + (b as u64) * 256 + (c as u64) * 65536 + (d as u64) * 16777216;
-    low + (e as u64) * 4294967296
-        + (f as u64) * 1099511627776
-        + (g as u64) * 281474976710656
-        + (h as u64) * 72057594037927936
-}
-
-// A byte, or 0 past the end.
-fn byte_or(bytes: &[u8], i: usize) -> u8
-    ensures { result ≡ get_or bytes.now i 0 }
-{
-    if i < bytes.len() { bytes[i] } else { 0 }
-}
-
-// The number of the eight bytes from a place on: in a row, their reads become one.
+// The number of the eight bytes from a place on.
 fn word_ahead(bytes: &[u8], at: usize) -> u64
     requires { at + 8 ≤ length bytes.now }
     ensures { result ≡ number_from (drop at bytes.now) % 2 ^ 64 }
 {
-    number(
-        bytes[at],
-        bytes[at + 1],
-        bytes[at + 2],
-        bytes[at + 3],
-        bytes[at + 4],
-        bytes[at + 5],
-        bytes[at + 6],
-        bytes[at + 7],
-    )
+    u64::from_le_bytes(*bytes[at..at + 8].first_chunk().unwrap())
 }
 
-// The same where there may be fewer than eight.
+// The same where there may be fewer than eight: zeros follow.
 fn word_at(bytes: &[u8], at: usize) -> u64
-    requires { at < 2 ^ 32 }
+    requires { at ≤ length bytes.now }
     ensures { result ≡ number_from (drop at bytes.now) % 2 ^ 64 }
 {
-    number(
-        byte_or(bytes, at),
-        byte_or(bytes, at + 1),
-        byte_or(bytes, at + 2),
-        byte_or(bytes, at + 3),
-        byte_or(bytes, at + 4),
-        byte_or(bytes, at + 5),
-        byte_or(bytes, at + 6),
-        byte_or(bytes, at + 7),
-    )
-}
-
-// The number of bucket b, from the bytes in which it lies.
-fn code_at(w: u32, bytes: &[u8], b: usize) -> u64
-    requires { Width w × (b < 65536) }
-    ensures { result ≡ code_in w (number_from bytes.now) b }
-{
-    let half = ((w - 1) as usize) * b;
-    let at = half / 2;
-    let skip = ((half % 2) as u32) * 4;
-    let size = 4 * (w - 1);
-    let word = word_at(bytes, at);
-    (word >> skip) & ((1u64 << size) - 1)
-}
-
-// The numbers of two buckets.
-#[derive(Clone, Copy)]
-struct Pair {
-    one: u64,
-    two: u64,
-}
-
-// The numbers of pair p, where a word fits that starts in its second bucket.
-fn pair_ahead(w: u32, bytes: &[u8], p: usize) -> Pair
-    requires { Width w × ((w - 1) * p + (w - 1) / 2 + 8 ≤ length bytes.now) }
-    ensures { (result.one ≡ code_in w (number_from bytes.now) (2 * p)) × (result.two ≡ code_in w (number_from bytes.now) (2 * p + 1)) }
-{
-    let half = ((w - 1) / 2) as usize;
-    let skip = (w - 1) % 2 * 4;
-    let size = 4 * (w - 1);
-    let mask = (1u64 << size) - 1;
-    let at = ((w - 1) as usize) * p;
-    let one = word_ahead(bytes, at);
-    let two = word_ahead(bytes, at + half);
-    Pair {
-        one: one & mask,
-        two: (two >> skip) & mask,
-    }
+    let rest = &bytes[at..];
+    let n = rest.len().min(8);
+    let mut word = [0; 8];
+    word[..n].copy_from_slice(&rest[..n]);
+    u64::from_le_bytes(word)
 }
 
 // A quadruple's nibbles, each as the highest of a word's 16 bits, the first lowest. The product has the
@@ -386,79 +282,39 @@ fn fields(n: u32, x: u64) -> u64
     ensures { result ≡ x % 2 ^ n + 65536 * (x / 2 ^ n % 2 ^ n + 65536 * (x / 2 ^ (n * 2) % 2 ^ n + 65536 * (x / 2 ^ (n * 3) % 2 ^ n))) }
 {
     let half = n * 2;
-    let both = (1u64 << half) - 1;
     let one = (1u64 << n) - 1;
-    let pairs = (x & both) + ((x >> half) & both) * 4294967296;
+    let pairs = low(x, half) + low(x >> half, half) * 4294967296;
     let lower = pairs & (one * 4294967297);
     lower + ((pairs - lower) << (16 - n))
 }
 
-// The four fingerprints of a bucket's number, made side by side in one word.
-fn bucket_from(quads: &[u16; 3876], w: u32, code: u64) -> [u16; 4]
-    requires { (quads.now ≡ all_rows) × Width w × (code % 4096 < 3876) }
-    ensures { result ≡ bucket_from w code }
-{
-    let row = (code % 4096) as usize;
-    let high = nibbles(quads[row]);
-    let low = fields(w - 4, code / 4096);
-    let all = (high >> (16 - w)) + low;
-    [
-        (all % 65536) as u16,
-        (all / 65536 % 65536) as u16,
-        (all / 4294967296 % 65536) as u16,
-        (all / 281474976710656) as u16,
-    ]
-}
-
 // Whether one of four values is above the next.
-fn descending(a: u16, b: u16, c: u16, d: u16) -> bool
-    ensures { result ≡ descends (a ∷ b ∷ c ∷ d ∷ []) }
+fn descending(f: &[u16; 4]) -> bool
+    ensures { result ≡ descends f.now }
 {
-    (b < a) | (c < b) | (d < c)
-}
-
-// 1 for a filled cell.
-fn filled(v: u16) -> usize
-    ensures { (result ≡ cond (eqb v 0) 0 1) × (result ≤ 1) }
-{
-    if v == 0 { 0 } else { 1 }
+    (f[1] < f[0]) | (f[2] < f[1]) | (f[3] < f[2])
 }
 
 // How many of four cells are filled.
-fn filled_of(a: u16, b: u16, c: u16, d: u16) -> usize
-    ensures { result ≡ filled_count (a ∷ b ∷ c ∷ d ∷ []) }
+fn filled(f: &[u16; 4]) -> usize
+    ensures { result ≡ filled_count f.now }
 {
-    filled(a) + filled(b) + filled(c) + filled(d)
+    usize::from(f[0] != 0)
+        + usize::from(f[1] != 0)
+        + usize::from(f[2] != 0)
+        + usize::from(f[3] != 0)
 }
 
-// One bucket checked: how many of its cells are filled, or the number of the refusal.
-fn check_code(quads: &[u16; 3876], w: u32, code: u64) -> UnpackAnswer
-    requires { (quads.now ≡ all_rows) × Width w }
-    ensures { unpack_is result ≡ unless (first_met (code_checks w code)) (given (filled_count (bucket_from w code))) }
+// One bucket's cells, to the part that is lent for it, so that no other is in reach. One by one they become one store;
+// `copy_from_slice` tests for overlap.
+fn put(part: &mut [u16], f: [u16; 4])
+    requires { length part.old ≡ 4 }
+    ensures { part.new ≡ f }
 {
-    if code % 4096 >= 3876 {
-        return UnpackAnswer::Refused(18);
-    }
-    let f = bucket_from(quads, w, code);
-    if descending(f[0], f[1], f[2], f[3]) {
-        return UnpackAnswer::Refused(19);
-    }
-    UnpackAnswer::Unpacked(filled_of(f[0], f[1], f[2], f[3]))
-}
-
-// Whether a bit behind the last bucket is set: there are four if the buckets take an odd number of half bytes.
-fn filling_set(s: Settings, bytes: &[u8]) -> bool
-    requires { Input s.width s.buckets bytes.now }
-    ensures { result ≡ not (eqb (number_from bytes.now / 2 ^ (bucket_bits s.width * s.buckets)) 0) }
-{
-    let w = s.width;
-    let m = s.buckets as usize;
-    let half = ((w - 1) as usize) * m;
-    let last = bytes[bytes.len() - 1];
-    if half % 2 == 0 {
-        return false;
-    }
-    last >= 16
+    part[0] = f[0];
+    part[1] = f[1];
+    part[2] = f[2];
+    part[3] = f[3];
 }
 
 // How many buckets passed, and how many of their cells are filled.
@@ -468,152 +324,238 @@ struct Seen {
     count: usize,
 }
 
-// The pairs ahead checked, up to a bucket that does not pass.
-fn check_pairs(quads: &[u16; 3876], w: u32, m: usize, bytes: &[u8]) -> Seen
-    requires { (quads.now ≡ all_rows) × Input w m bytes.now }
-    ensures { CellsCounted w m (number_from bytes.now) result.count result.buckets }
-{
-    let many = ahead(m);
-    let mut count = 0;
-    let mut p = 0;
-    while p < many {
-        let pair = pair_ahead(w, bytes, p);
-        let first = check_code(quads, w, pair.one);
-        let UnpackAnswer::Unpacked(n) = first else {
-            return Seen {
-                buckets: 2 * p,
-                count: count,
+// What the reader goes by: the width, the rows, and an input of the length that so many buckets take.
+#[derive(Clone, Copy)]
+struct Unpacker<'a> {
+    width: Width,
+    buckets: usize,
+    quads: &'a [u16; 3876],
+    bytes: &'a [u8],
+    ghost some: { 1 ≤ buckets },
+    ghost few: { buckets ≤ 65536 },
+    ghost quads_are: { quads.now ≡ all_rows },
+    ghost size: { length bytes.now ≡ bytes_for width.bits buckets },
+    ghost in_range: { (i : ℕ) → get_or bytes.now i 0 < 256 },
+}
+
+impl Unpacker<'_> {
+    // The number of bucket b, from the bytes in which it lies.
+    fn code_at(self, b: usize) -> u64
+        requires { b < self.buckets }
+        ensures { result ≡ code_in self.entry.width.bits (number_from self.entry.bytes.now) b }
+    {
+        let w = self.width.bits;
+        let half = ((w - 1) as usize) * b;
+        let at = half / 2;
+        let skip = ((half % 2) as u32) * 4;
+        low(word_at(self.bytes, at) >> skip, 4 * (w - 1))
+    }
+
+    // The numbers of the two buckets of a pair ahead: a word fits that starts in the second.
+    fn pair_ahead(self, p: usize) -> (u64, u64)
+        requires { p < (self.buckets - 4) / 2 }
+        ensures first { result.0 ≡ code_in self.entry.width.bits (number_from self.entry.bytes.now) (2 * p) }
+        ensures second { result.1 ≡ code_in self.entry.width.bits (number_from self.entry.bytes.now) (2 * p + 1) }
+    {
+        let w = self.width.bits;
+        let half = ((w - 1) / 2) as usize;
+        let skip = (w - 1) % 2 * 4;
+        let size = 4 * (w - 1);
+        let at = ((w - 1) as usize) * p;
+        let one = word_ahead(self.bytes, at);
+        let two = word_ahead(self.bytes, at + half);
+        (low(one, size), low(two >> skip, size))
+    }
+
+    // The four fingerprints of a bucket's number, made side by side in one word.
+    fn bucket_from(self, code: u64) -> [u16; 4]
+        requires { code % 4096 < 3876 }
+        ensures { result ≡ bucket_from self.entry.width.bits code }
+    {
+        let w = self.width.bits;
+        let quads = self.quads;
+        let row = (code % 4096) as usize;
+        let high = nibbles(quads[row]);
+        let low = fields(w - 4, code / 4096);
+        let all = (high >> (16 - w)) + low;
+        [
+            (all % 65536) as u16,
+            (all / 65536 % 65536) as u16,
+            (all / 4294967296 % 65536) as u16,
+            (all / 281474976710656) as u16,
+        ]
+    }
+
+    // One bucket checked: how many of its cells are filled.
+    fn check_code(self, code: u64) -> Result<usize, Refusal>
+        ensures { told result ≡ unless (first_met (code_checks self.entry.width.bits code)) (given (filled_count (bucket_from self.entry.width.bits code))) }
+    {
+        if code % 4096 >= 3876 {
+            return Err(Refusal::Row);
+        }
+        let f = self.bucket_from(code);
+        if descending(&f) {
+            return Err(Refusal::Order);
+        }
+        Ok(filled(&f))
+    }
+
+    // Whether a bit behind the last bucket is set: there are four if the buckets take an odd number of half bytes.
+    fn filling_set(self) -> bool
+        ensures { result ≡ not (eqb (stream_from self.entry.width.bits (number_from self.entry.bytes.now) self.entry.buckets) 0) }
+    {
+        let half = ((self.width.bits - 1) as usize) * self.buckets;
+        let bytes = self.bytes;
+        let last = bytes[bytes.len() - 1];
+        if half % 2 == 0 {
+            return false;
+        }
+        last >= 16
+    }
+
+    // The pairs ahead checked, up to a bucket that does not pass. Its refusal is found by the next loop: kept in this one,
+    // it makes reading take a third longer.
+    #[inline(always)]
+    fn check_pairs(self) -> Seen
+        ensures { CellsCounted self.entry.width.bits self.entry.buckets (number_from self.entry.bytes.now) result.count result.buckets }
+    {
+        let many = ahead(self.buckets);
+        let mut count = 0;
+        for p in 0..many {
+            let (one, two) = self.pair_ahead(p);
+            let Ok(n) = self.check_code(one) else {
+                return Seen {
+                    buckets: 2 * p,
+                    count,
+                };
             };
-        };
-        count += n;
-        let second = check_code(quads, w, pair.two);
-        let UnpackAnswer::Unpacked(k) = second else {
-            return Seen {
-                buckets: 2 * p + 1,
-                count: count,
+            count += n;
+            let Ok(n) = self.check_code(two) else {
+                return Seen {
+                    buckets: 2 * p + 1,
+                    count,
+                };
             };
-        };
-        count += k;
-        p += 1;
+            count += n;
+        }
+        Seen {
+            buckets: 2 * many,
+            count,
+        }
     }
-    Seen {
-        buckets: 2 * p,
-        count: count,
+
+    // Every bucket checked and the filling after them: how many cells are filled.
+    #[inline(always)]
+    fn check(self) -> Result<usize, Refusal>
+        ensures { told result ≡ count_in (unpack self.entry.width.bits self.entry.buckets (number_from self.entry.bytes.now)) }
+    {
+        let Seen { buckets, mut count } = self.check_pairs();
+        for b in buckets..self.buckets {
+            count += self.check_code(self.code_at(b))?;
+        }
+        if self.filling_set() {
+            return Err(Refusal::Filling);
+        }
+        Ok(count)
+    }
+
+    // One bucket to the table, from its number.
+    fn store_code(self, code: u64, table: &mut [u16], at: usize)
+        requires { (code % 4096 < 3876) × (at + 4 ≤ length table.old) }
+        ensures { table.new ≡ take at table.old ++ (bucket_from self.entry.width.bits code ++ drop (at + 4) table.old) }
+    {
+        let e = at + 4;
+        put(&mut table[at..e], self.bucket_from(code));
+    }
+
+    // The pairs ahead of a stream that passed, to the table.
+    #[inline(always)]
+    fn store_pairs(self, table: &mut [u16])
+        requires { Storing self.width.bits self.buckets (number_from self.bytes.now) table.old }
+        ensures { CellsStored self.entry.width.bits self.entry.buckets (number_from self.entry.bytes.now) table.new (2 * ((self.entry.buckets - 4) / 2)) }
+    {
+        for p in 0..ahead(self.buckets) {
+            let (one, two) = self.pair_ahead(p);
+            self.store_code(one, table, 8 * p);
+            self.store_code(two, table, 8 * p + 4);
+        }
+    }
+
+    // Every bucket of a stream that passed, to the table.
+    #[inline(always)]
+    fn store(self, table: &mut [u16])
+        requires { Storing self.width.bits self.buckets (number_from self.bytes.now) table.old }
+        ensures { given table.new ≡ unpack self.entry.width.bits self.entry.buckets (number_from self.entry.bytes.now) }
+    {
+        self.store_pairs(table);
+        for b in 2 * ahead(self.buckets)..self.buckets {
+            self.store_code(self.code_at(b), table, 4 * b);
+        }
+    }
+
+    // The cells of an input that passes, to the table: how many are filled. It is inlined with what it calls, so that a
+    // literal width reaches their shifts.
+    #[inline(always)]
+    fn unpack(self, table: &mut [u16]) -> Result<usize, Refusal>
+        requires { length table.old ≡ 4 * self.buckets }
+        ensures { Unpacked (unpack self.entry.width.bits self.entry.buckets (number_from self.entry.bytes.now)) table.old (told result) table.new }
+    {
+        let count = self.check()?;
+        self.store(table);
+        Ok(count)
+    }
+
+    // The same, with the usual widths as literals.
+    fn unpack_by(self, table: &mut [u16]) -> Result<usize, Refusal>
+        requires { length table.old ≡ 4 * self.buckets }
+        ensures { Unpacked (unpack self.entry.width.bits self.entry.buckets (number_from self.entry.bytes.now)) table.old (told result) table.new }
+    {
+        let Unpacker {
+            width,
+            buckets,
+            quads,
+            bytes,
+        } = self;
+        match width.bits {
+            16 => Unpacker {
+                width: Width { bits: 16 },
+                buckets,
+                quads,
+                bytes,
+            }
+            .unpack(table),
+            12 => Unpacker {
+                width: Width { bits: 12 },
+                buckets,
+                quads,
+                bytes,
+            }
+            .unpack(table),
+            _ => self.unpack(table),
+        }
     }
 }
 
-// Every bucket checked and the filling after them, with the table still untouched. The answer is the reader's.
-fn check_buckets(quads: &[u16; 3876], s: Settings, bytes: &[u8]) -> UnpackAnswer
-    requires { (quads.now ≡ all_rows) × Input s.width s.buckets bytes.now }
-    ensures { unpack_is result ≡ count_in (unpack s.width s.buckets (number_from bytes.now)) }
+// The table that a packed form has, its buckets sorted: how many cells are filled. The table is written once the whole
+// input has passed.
+pub fn read(s: Settings, bytes: &[u8], table: &mut [u16]) -> Result<usize, Refusal>
+    ensures { outcome (told result) table.new ≡ read_packed s bytes.now table.old }
 {
-    let w = s.width;
-    let m = s.buckets as usize;
-    let seen = check_pairs(quads, w, m, bytes);
-    let mut count = seen.count;
-    let mut b = seen.buckets;
-    while b < m {
-        let code = code_at(w, bytes, b);
-        let found = check_code(quads, w, code);
-        let UnpackAnswer::Unpacked(n) = found else {
-            return found;
-        };
-        count += n;
-        b += 1;
-    }
-    if filling_set(s, bytes) {
-        return UnpackAnswer::Refused(20);
-    }
-    UnpackAnswer::Unpacked(count)
-}
-
-// One bucket's cells, to the part that is lent for it, so that no other is in reach.
-fn put(part: &mut [u16], a: u16, b: u16, c: u16, d: u16)
-    requires { 4 ≤ length part.old }
-    ensures { part.new ≡ a ∷ b ∷ c ∷ d ∷ drop 4 part.old }
-{
-    part[0] = a;
-    part[1] = b;
-    part[2] = c;
-    part[3] = d;
-}
-
-// One bucket to the table, from its number.
-fn store_code(quads: &[u16; 3876], w: u32, code: u64, table: &mut [u16], at: usize)
-    requires { (quads.now ≡ all_rows) × Width w × (code % 4096 < 3876) × (at + 4 ≤ length table.old) }
-    ensures { table.new ≡ take at table.old ++ (bucket_from w code ++ drop (at + 4) table.old) }
-{
-    let f = bucket_from(quads, w, code);
-    let e = at + 4;
-    put(&mut table[at..e], f[0], f[1], f[2], f[3]);
-}
-
-// The pairs ahead of a stream that passed, to the table; how many.
-fn store_pairs(quads: &[u16; 3876], w: u32, m: usize, bytes: &[u8], table: &mut [u16]) -> usize
-    requires { Storing quads.now w m bytes.now table.old }
-    ensures { CellsStored w m (number_from bytes.now) table.new (2 * result) }
-{
-    let many = ahead(m);
-    let mut p = 0;
-    while p < many {
-        let pair = pair_ahead(w, bytes, p);
-        store_code(quads, w, pair.one, table, 8 * p);
-        store_code(quads, w, pair.two, table, 8 * p + 4);
-        p += 1;
-    }
-    p
-}
-
-// The same, with the usual widths as literals.
-fn store_by(quads: &[u16; 3876], w: u32, m: usize, bytes: &[u8], table: &mut [u16]) -> usize
-    requires { Storing quads.now w m bytes.now table.old }
-    ensures { CellsStored w m (number_from bytes.now) table.new (2 * result) }
-{
-    if w == 16 {
-        return store_pairs(quads, 16, m, bytes, table);
-    }
-    if w == 12 {
-        return store_pairs(quads, 12, m, bytes, table);
-    }
-    store_pairs(quads, w, m, bytes, table)
-}
-
-// Every bucket of a stream that passed, to the table.
-fn store_buckets(quads: &[u16; 3876], s: Settings, bytes: &[u8], table: &mut [u16])
-    requires { Storing quads.now s.width s.buckets bytes.now table.old }
-    ensures { given table.new ≡ unpack s.width s.buckets (number_from bytes.now) }
-{
-    let w = s.width;
-    let m = s.buckets as usize;
-    let pairs = store_by(quads, w, m, bytes, table);
-    let mut b = 2 * pairs;
-    while b < m {
-        let code = code_at(w, bytes, b);
-        store_code(quads, w, code, table, 4 * b);
-        b += 1;
-    }
-}
-
-// The table that a packed form has, its buckets sorted. The table is written once the whole input has passed.
-pub fn read(s: Settings, bytes: &[u8], table: &mut [u16]) -> UnpackAnswer
-    ensures { outcome (unpack_is result) table.new ≡ read_packed s bytes.now table.old }
-{
-    let n = table::table_refusal(s, table);
-    if n != 0 {
-        return UnpackAnswer::Refused(n);
-    }
+    table::table_check(s, table)?;
     let needed = packed_length(s);
     if bytes.len() < needed {
-        return UnpackAnswer::Refused(11);
+        return Err(Refusal::EndsEarly);
     }
     if bytes.len() > needed {
-        return UnpackAnswer::Refused(15);
+        return Err(Refusal::GoesOn);
     }
     let quads = rows::table();
-    let answer = check_buckets(&quads, s, bytes);
-    let UnpackAnswer::Unpacked(count) = answer else {
-        return answer;
-    };
-    store_buckets(&quads, s, bytes, table);
-    UnpackAnswer::Unpacked(count)
+    let width = Width { bits: s.width };
+    Unpacker {
+        width,
+        buckets: s.buckets as usize,
+        quads: &quads,
+        bytes,
+    }
+    .unpack_by(table)
 }

@@ -146,7 +146,11 @@ module _ (s : Settings) (e : settings_refusal s ≡ none) where
       record { replies = ap₂ (λ (x : Answer Said) (xs : List (Answer Said)). x ∷ xs) (said c c' E A A' a) r.replies; classes = r.classes }
 
 pub packing-keeps : PackingKeeps
-packing-keeps = record { lookups = λ s c tag P. lookups s c P tag; counts = λ s c p b P. counts s c P p b; classes = λ s c P. multiset-laws.permutes (entries s (sort_buckets c)) (entries s c) (same s c P) }
+packing-keeps = record {
+  lookups = λ s c tag P. lookups s c P tag;
+  counts = λ s c p b P. counts s c P p b;
+  classes = λ s c P. multiset-laws.permutes (entries s (sort_buckets c)) (entries s c) (same s c P);
+}
 
 pub packing-goes-on : PackingGoesOn
 packing-goes-on = record {

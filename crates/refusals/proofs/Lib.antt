@@ -2,3 +2,5 @@
 pub mod Laws
 pub mod Positive
 pub mod Cursor
+pub mod HandedOn
+pub mod Numbers

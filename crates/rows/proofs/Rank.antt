@@ -48,7 +48,8 @@ rank-small a b c d = omega arith
 
 -- ── the counts in one list ──
 -- a part of the list from place o on, and a bound of it, by computed tests
-part_at : (l part : List ℕ) (o k : ℕ) → l ≡ larger → T (every (λ i x. eqb (get_or larger (i + o) 0) x) 0 part) → length part ≡ 16 → k < 16 → get_or l (k + o) 0 ≡ get_or part (k % 16) 0
+part_at : (l part : List ℕ) (o k : ℕ)
+    → l ≡ larger → T (every (λ i x. eqb (get_or larger (i + o) 0) x) 0 part) → length part ≡ 16 → k < 16 → get_or l (k + o) 0 ≡ get_or part (k % 16) 0
 part_at l part o k e t n h =
     let m : k % 16 ≡ k = omega arith in
     rw m (ap (λ (x : List ℕ). get_or x (k + o) 0) e ∙ eqb→eq _ _ (at (λ i x. eqb (get_or larger (i + o) 0) x) part t k (omega arith)))

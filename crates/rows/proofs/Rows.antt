@@ -59,7 +59,8 @@ record Steps (a b c d n : ℕ) : Type 0 where
 steps : (a b c d : ℕ) → b < 16 → c < 16 → d < 16 → Steps a b c d (next_of a b c d)
 steps a b c d hb hc hd = go (ltb d 15) refl (ltb c 15) refl (ltb b 15) refl
   where
-    second : (x y z w : ℕ) → x ≤ a → b < y → c < 15 → y ≤ z → z ≤ w → w < 16 → quadruple a b c 15 ≤ quadruple x y z w → quadruple x y z w < quadruple a b (c + 1) (c + 1) → ⊥
+    second : (x y z w : ℕ)
+        → x ≤ a → b < y → c < 15 → y ≤ z → z ≤ w → w < 16 → quadruple a b c 15 ≤ quadruple x y z w → quadruple x y z w < quadruple a b (c + 1) (c + 1) → ⊥
     second x y z w p q r i j k g l =
         let ex : x ≡ a = omega arith in
         omega arith
@@ -250,4 +251,6 @@ rows_right = record {
         (omega (arith, g.0, how-many), g.1)
 
     at : (r : ℕ) → r < 3876 → Ascending (get_or rows r 0) × (get_or rows r 0 ≤ 65535)
-    at r h = subst (λ (l : List ℕ). Ascending (get_or l r 0) × (get_or l r 0 ≤ 65535)) (sym from_zero) (all-ascend (rest rows) 0 the-chain zero-ascends r (omega (arith, how-many, ap length from_zero)))
+    at r h =
+        subst (λ (l : List ℕ). Ascending (get_or l r 0) × (get_or l r 0 ≤ 65535)) (sym from_zero)
+        (all-ascend (rest rows) 0 the-chain zero-ascends r (omega (arith, how-many, ap length from_zero)))

@@ -7,6 +7,7 @@ ghost use Rattle.rows.specs.Rows.{rows, larger};
 
 // The table. A constant array is copied where it is used, so that a caller with many rows to look up
 // takes it once and lends it.
+#[tactic(auto, unfolding(crate::specs::Rows::rows))]
 pub fn table() -> [u16; 3876]
     ensures { result ≡ rows }
 {

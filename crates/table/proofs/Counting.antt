@@ -1,22 +1,18 @@
--- Filled cells counted one after the other.
+-- Filled cells as the library counts them.
 -- Assumes nothing.
-use mathlib.Core.Path.{◌≡◌, refl}
+use mathlib.Core.Path.{◌≡◌, refl, sym}
+use mathlib.Core.Bool.{Bool, true, false, not, cond}
 use mathlib.Core.List.{List}
-use mathlib.Core.Logic.{◌≢◌}
-use Prim.Native.Nat.{ℕ, ◌+◌, ◌≤◌, ◌<◌}
-use native.Mathlib.Numerals.{add-one}
+use Prim.Native.Nat.{ℕ, ◌+◌}
 use native.Mathlib.Omega.{arith}
-use borrow.Author.Tests.{eq-eqb, ne_eqb}
-use lib.ListN.{length, get_or, drop, drop_of_length-le}
-use lib.Seq.{drop-cons}
+use lib.Dec.{eqb}
+use Rattle.std.specs.List.{count_by}
+use Rattle.std.proofs.lemmas.List.Recursion.{is_count_by}
 use Rattle.calls.specs.Cells.{filled_count}
 
-module _ (l : List ℕ) (i : ℕ) where
-  pub filled-here : i < length l → get_or l i 0 ≢ 0 → filled_count (drop i l) ≡ 1 + filled_count (drop (i + 1) l)
-  filled-here h n = rw (add-one, drop-cons l i 0 h, ne_eqb (get_or l i 0) 0 n) refl
+one_more : (b : Bool) (n : ℕ) → cond b 0 1 + n ≡ cond (not b) (1 + n) n
+one_more true n = omega arith
+one_more false n = refl
 
-  pub filled-not : i < length l → get_or l i 0 ≡ 0 → filled_count (drop i l) ≡ filled_count (drop (i + 1) l)
-  filled-not h e = rw (add-one, drop-cons l i 0 h, eq-eqb (get_or l i 0) 0 e) (omega arith)
-
-  pub filled-end : length l ≤ i → filled_count (drop i l) ≡ 0
-  filled-end h = rw (drop_of_length-le l h) refl
+pub filled-is : (l : List ℕ) → count_by (λ v. not (eqb v 0)) l ≡ filled_count l
+filled-is l = sym (is_count_by filled_count (λ v. not (eqb v 0)) refl (λ v k. one_more (eqb v 0) (filled_count k)) l)

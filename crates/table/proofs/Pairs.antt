@@ -1,17 +1,13 @@
 -- The lowest empty cell as the code looks for it: cells 0 and 1 of a bucket, then 2 and 3.
 -- Assumes nothing.
 use mathlib.Core.Path.{◌≡◌, refl, sym, ap, ◌∙◌}
-use mathlib.Core.Logic.{◌≢◌}
-use mathlib.Core.Bool.{Bool, true, false, not, cond}
-use mathlib.Core.Option.{Option, none, some, some-injective, none-ne-some}
+use mathlib.Core.Bool.{Bool, true, false, cond}
+use mathlib.Core.Option.{Option, none, some}
 use mathlib.Core.List.{List, [], ◌∷◌}
-use mir.Val.{bool_byte}
-use Prim.Native.Nat.{ℕ, zero, suc, ◌+◌, ◌*◌, ◌-◌, ◌≤◌, ◌<◌}
-use native.Mathlib.Nat.{zero-mul, mul-zero, mul-pos, zero-lt-suc}
+use Prim.Native.Nat.{ℕ, zero, suc, ◌+◌, ◌*◌, ◌-◌, ◌<◌}
 use native.Mathlib.Omega.{arith}
-use borrow.Author.Tests.{ne_eqb}
 use lib.Dec.{eqb}
-use lib.ListN.{take, drop, drop_of_length-le}
+use lib.ListN.{take, drop}
 use lib.Seq.{get_or-take, get_or-drop}
 use Rattle.calls.specs.Cells.{cell, cells_of, first_holding, lowest_empty}
 
@@ -20,29 +16,8 @@ use Rattle.calls.specs.Cells.{cell, cells_of, first_holding, lowest_empty}
 abbrev lower : Bool → Bool → Option ℕ
 lower x y = cond x (some 0) (cond y (some 1) none)
 
-lower-within : (x y : Bool) {i : ℕ} → lower x y ≡ some i → i ≤ 1
-lower-within true y e = omega (arith, some-injective _ _ e)
-lower-within false true e = omega (arith, some-injective _ _ e)
-lower-within false false e = absurd (none-ne-some _ e)
-
--- the two cells' product says whether one is empty
-both-filled : (x y : ℕ) → x * y ≢ 0 → none ≡ lower (eqb x 0) (eqb y 0)
-both-filled x y n = rw (ne_eqb x 0 (λ e. n (ap (λ (z : ℕ). z * y) e ∙ zero-mul y)), ne_eqb y 0 (λ e. n (ap (λ (z : ℕ). x * z) e ∙ mul-zero x))) refl
-
-one-empty : (x y : ℕ) → x * y ≡ 0 → some (bool_byte (not (eqb x 0))) ≡ lower (eqb x 0) (eqb y 0)
-one-empty zero y e = refl
-one-empty (suc x) zero e = rw (ne_eqb (suc x) 0 (λ z. omega (arith, z))) refl
-one-empty (suc x) (suc y) e = absurd (omega (arith, e, mul-pos (zero-lt-suc x) (zero-lt-suc y)))
-
 abbrev empty_of : List ℕ → Option ℕ
 empty_of v = first_holding v 0 (0 ∷ 1 ∷ [])
-
-module _ (v : List ℕ) {n : ℕ} (e : n ≡ cell v 0 * cell v 1) where
-  pub pair-full : n ≢ 0 → none ≡ empty_of v
-  pair-full h = both-filled (cell v 0) (cell v 1) (λ z. h (e ∙ z))
-
-  pub pair-open : n ≡ 0 → some (bool_byte (not (eqb (cell v 0) 0))) ≡ empty_of v
-  pair-open z = one-empty (cell v 0) (cell v 1) (sym e ∙ z)
 
 -- ── a pair of the table ──
 -- the pair at a, as the code lends it
@@ -80,14 +55,8 @@ unfolding lowest_empty
 pairs_start c b = record { same = refl }
 
 module _ {c : List ℕ} {b j : ℕ} (K : Pairs c b j) where
-  pub pairs_end : 2 ≤ j → none ≡ lowest_empty c b
-  pairs_end h = sym (ap (first_holding c 0) (drop_of_length-le (cells_of b) {i = 2 * j} (omega (arith, h)))) ∙ K.same
-
   abbrev here : Option ℕ
   here = empty_of (pair_at c (4 * b + 2 * j))
-
-  pub pair-within : {i : ℕ} → here ≡ some i → i ≤ 1
-  pair-within e = let v = pair_at c (4 * b + 2 * j) in lower-within (eqb (cell v 0) 0) (eqb (cell v 1) 0) e
 
   module _ (h : j < 2) where
     from-here : {o : Option ℕ} → here ≡ o → found_at (4 * b + 2 * j) (first_holding c 0 (drop (2 * (j + 1)) (cells_of b))) o ≡ lowest_empty c b

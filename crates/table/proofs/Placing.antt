@@ -1,24 +1,27 @@
 -- A hold, and the search for a tag's place: what their checks refuse, where the search ends, and what a hold then comes to.
 -- Assumes nothing.
 use mathlib.Core.Path.{◌≡◌, refl, sym, ap, ap₂, ◌∙◌, subst}
-use mathlib.Core.Logic.{◌≢◌}
 use mathlib.Core.Bool.{Bool, true, false, cond}
 use mathlib.Core.Option.{Option, none, some}
 use mathlib.Core.List.{List, [], ◌∷◌, ◌++◌}
 use Prim.Native.Nat.{ℕ, ◌+◌, ◌*◌, ◌/◌, ◌≤◌, ◌<◌}
 use native.Mathlib.Omega.{arith}
-use lib.ListN.{length, get_or, take, length-append}
+use lib.ListN.{length, get_or, length-append}
 use lib.Seq.{get_or-append_seam}
-use Rattle.refusals.specs.Checks.{first_met, number_of}
+use Rattle.std.specs.Prelude.{Result, Ok, Err}
+use Rattle.std.specs.Prelude as std
+use Rattle.refusals.specs.Checks.{first_met}
 use Rattle.refusals.specs.Outcomes.{refused, given, outcome, keeping}
+use Rattle.refusals.specs.Refusals.{number_told, told}
+use Rattle.refusals.specs.declared.Refusal.{Refusal}
 use Rattle.refusals.specs.Laws.{Reached}
-use Rattle.refusals.proofs.Cursor.{start, all-met, all-passed, number-met, call-refused, call-goes-on}
+use Rattle.refusals.proofs.Cursor.{start, all-met, all-passed, call-refused, call-goes-on}
 use Rattle.index.specs.Settings.{settings_checks}
 use Rattle.index.specs.Hash.{fingerprint, home, tag_checks}
 use Rattle.index.specs.Candidates.{candidates, others}
 use Rattle.index.specs.Answers.{entry_of}
 use Rattle.index.specs.declared.Settings.{Settings}
-use Rattle.index.specs.declared.CandidateList.{CandidateList}
+use Rattle.index.specs.declared.Entry.{Entry}
 use Rattle.index.proofs.Laws.{laws}
 use Rattle.index.proofs.Checks.{check-laws}
 use Rattle.calls.specs.Cells.{lowest_empty, in_first}
@@ -29,12 +32,10 @@ use Rattle.calls.proofs.Laws.{scan-laws, table-check-laws, call-laws}
 use Rattle.table.specs.Answers.{hold_is, Holds}
 use Rattle.table.specs.Scratch.{queue_in, path_in, Sparse}
 use Rattle.table.specs.Probes.{Ended, free_in, Probed, Probes}
-use Rattle.table.specs.Laws.{comes_to}
+use Rattle.table.specs.Laws.{comes_from}
 use Rattle.table.specs.Internal.{Sought}
-use Rattle.table.specs.declared.HoldAnswer.{HoldAnswer}
-use Rattle.table.specs.declared.ProbeAnswer.{ProbeAnswer}
-use Rattle.table.specs.declared.SearchAnswer.{SearchAnswer}
-use Rattle.table.proofs.Guards.{Placing, list-is}
+use Rattle.table.specs.declared.Placement.{Placement}
+use Rattle.table.proofs.Guards.{Placing}
 use Rattle.table.proofs.Scratch.{queue-length, path-at}
 
 -- ── the checks: of a hold, and of the search alone ──
@@ -42,24 +43,25 @@ module _ (s : Settings) (c w t : List ℕ) where
   abbrev act : Act
   act = hold_in s c (fingerprint s t) (home s t)
 
-  pub hold-refused : {n : ℕ} → first_met (hold_checks s c (length w) t) ≡ some n → Holds (HoldAnswer.Refused n) s c c w w t
-  unfolding hold
-  hold-refused e = record { does = call-refused c act e; keeps = λ m f. refl }
+  module _ {e : Refusal} (q : some (number_told e) ≡ first_met (hold_checks s c (length w) t)) where
+    pub hold-refused : {r : Result ℕ Refusal} → r ≡ Err e → Holds r s c c w w t
+    unfolding hold
+    hold-refused f = rw f (record { does = call-refused c act (sym q); keeps = λ m g. refl })
 
-  pub probe-refused : {n : ℕ} → first_met (hold_checks s c (length w) t) ≡ some n → Probes (ProbeAnswer.Refused n) s c w w t
-  probe-refused e = rw e (refl, refl)
+    pub probe-refused : {r : Result Placement Refusal} → r ≡ Err e → Probes r s c w w t
+    probe-refused f = rw (← q) (ap told f, refl)
 
-  pub by-table : {n : ℕ} → n ≡ number_of (first_met (table_checks s c)) → n ≢ 0 → first_met (hold_checks s c (length w) t) ≡ some n
+  pub by-table : {n : ℕ} → some n ≡ first_met (table_checks s c) → some n ≡ first_met (hold_checks s c (length w) t)
   unfolding hold_checks
-  by-table e h = all-met (table_checks s c) (scratch_checks s (length w) ++ tag_checks t) (start _) (number-met (table_checks s c) e h)
+  by-table e = sym (all-met (table_checks s c) (scratch_checks s (length w) ++ tag_checks t) (start _) (sym e))
 
   module _ (S : Sound s c) where
     at-scratch : Reached (hold_checks s c (length w) t) (scratch_checks s (length w) ++ tag_checks t)
     unfolding hold_checks
     at-scratch = all-passed (table_checks s c) (scratch_checks s (length w) ++ tag_checks t) (start _) ((table-check-laws s c).passes S)
 
-    pub by-scratch : length w < 2 * s.buckets → first_met (hold_checks s c (length w) t) ≡ some 6
-    by-scratch h = all-met (scratch_checks s (length w)) (tag_checks t) at-scratch ((table-check-laws s c).scratch_refused (length w) h)
+    pub by-scratch : length w < 2 * s.buckets → some 6 ≡ first_met (hold_checks s c (length w) t)
+    by-scratch h = sym (all-met (scratch_checks s (length w)) (tag_checks t) at-scratch ((table-check-laws s c).scratch_refused (length w) h))
 
     module _ (l : 2 * s.buckets ≤ length w) where
       -- the tag decides
@@ -68,20 +70,20 @@ module _ (s : Settings) (c w t : List ℕ) where
           (all-passed (scratch_checks s (length w)) (tag_checks t) at-scratch ((table-check-laws s c).scratch_passes (length w) l)).decides
           ∙ sym (all-passed (settings_checks s) (tag_checks t) (start _) S.settings).decides
 
-      pub by-tag : {n : ℕ} → refused n ≡ entry_of s t → first_met (hold_checks s c (length w) t) ≡ some n
-      by-tag {n} e = tag-left ∙ (check-laws s).entry_refused t n (sym e)
+      pub by-tag : {n : ℕ} → refused n ≡ entry_of s t → some n ≡ first_met (hold_checks s c (length w) t)
+      by-tag {n} e = sym (tag-left ∙ (check-laws s).entry_refused t n (sym e))
 
-      module _ (p b : ℕ) (e : given (record { print = p; home = b }) ≡ entry_of s t) where
+      module _ (x : Entry) (e : given x ≡ entry_of s t) where
         none-met : first_met (hold_checks s c (length w) t) ≡ none
-        none-met = tag-left ∙ ((check-laws s).entry_given t p b (sym e)).0
+        none-met = tag-left ∙ ((check-laws s).entry_given t x.print x.home (sym e)).0
 
-        pub probe-made : (r : ProbeAnswer) (w' : List ℕ) → Probed s c p b w' r → Probes r s c w w' t
-        probe-made r w' f = let g = (check-laws s).entry_given t p b (sym e) in rw (none-met, ← g.1, ← g.2) f
+        pub probe-made : (r : Placement) (w' : List ℕ) → Probed s c x.print x.home w' r → Probes (Ok r) s c w w' t
+        probe-made r w' f = let g = (check-laws s).entry_given t x.print x.home (sym e) in rw (none-met, ← g.1, ← g.2) f
 
-        pub hold-made : {r : HoldAnswer} {c' w' : List ℕ} → outcome (hold_is r) c' ≡ keeping c (hold_in s c p b) → Holds r s c c' w w' t
+        pub hold-made : {r : Result ℕ Refusal} {c' w' : List ℕ} → outcome (hold_is r) c' ≡ keeping c (hold_in s c x.print x.home) → Holds r s c c' w w' t
         unfolding hold
         hold-made f =
-            let g = (check-laws s).entry_given t p b (sym e) in
+            let g = (check-laws s).entry_given t x.print x.home (sym e) in
             let n = none-met in
             record {
               does = f ∙ ap₂ (λ (x y : ℕ). keeping c (hold_in s c x y)) g.1 g.2 ∙ call-goes-on c act n;
@@ -99,24 +101,24 @@ roots-grow (x ∷ xs) q = go (marked x q) (roots-grow xs q) (roots-grow xs (q ++
     go true r t = r
     go false r t = omega (arith, length-append q (node x [] ∷ []))
 
-module _ {s : Settings} {c : List ℕ} {p b : ℕ} {l : CandidateList} (K : Placing s c p b l) where
-  pub first-is : {o x : Option ℕ} → o ≡ in_first (lowest_empty c) (take l.count l.buckets) → o ≡ x → free_in s c p b ≡ x
-  first-is e k = sym (ap (in_first (lowest_empty c)) (list-is K)) ∙ sym e ∙ k
+module _ {s : Settings} {c : List ℕ} {p b : ℕ} {l : List ℕ} (K : Placing s c p b l) where
+  pub first-is : {o x : Option ℕ} → o ≡ in_first (lowest_empty c) l → o ≡ x → free_in s c p b ≡ x
+  first-is e k = sym (ap (in_first (lowest_empty c)) K.list-is) ∙ sym e ∙ k
 
   -- w is scratch with the roots, w' at the search's end
-  module _ (w : List ℕ) (roots : ℕ) (rooted : queue_in s.buckets w roots roots ≡ roots_from (take l.count l.buckets) []) where
+  module _ (w : List ℕ) (roots : ℕ) (rooted : queue_in s.buckets w roots roots ≡ roots_from l []) where
     at-start : queue_in s.buckets w roots roots ≡ roots_from (candidates s p b) []
-    at-start = rooted ∙ ap (λ (xs : List ℕ). roots_from xs []) (list-is K)
+    at-start = rooted ∙ ap (λ (xs : List ℕ). roots_from xs []) K.list-is
 
     pub some-root : 1 ≤ roots
     some-root =
         let f : queue_in s.buckets w roots roots ≡ roots_from (others s p b) (node b [] ∷ []) = at-start ∙ ap (λ (xs : List ℕ). roots_from xs []) ((laws s K.pass.settings).first p b) in
         omega (arith, sym (queue-length s.buckets w roots roots) ∙ ap length f, roots-grow (others s p b) (node b [] ∷ []))
 
-    pub sought-is : (w' : List ℕ) {r x : SearchAnswer} → r ≡ x → Sought (search_from s c s.buckets 0 (queue_in s.buckets w roots roots)) s.buckets w' roots r
-        → Sought (search_for s c p b) s.buckets w' roots x
+    pub sought-is : (w' : List ℕ) (t' : ℕ) {r x : std.Option ℕ} → r ≡ x → Sought (search_from s c s.buckets 0 (queue_in s.buckets w roots roots)) s.buckets w' roots t' r
+        → Sought (search_for s c p b) s.buckets w' roots t' x
     unfolding search_for
-    sought-is w' e S = rw (← e, ← at-start) S
+    sought-is w' t' e S = rw (← e, ← at-start) S
 
 -- ── what placing it comes to ──
 module _ (s : Settings) (c : List ℕ) (p b : ℕ) (S : Sound s c) (below : b < s.buckets) where
@@ -149,8 +151,7 @@ module _ (s : Settings) (c : List ℕ) (p b : ℕ) (S : Sound s c) (below : b < 
       E.rooted,
     )
 
-  pub comes : (w : List ℕ) (r : ProbeAnswer) → Probed s c p b w r → keeping c (hold_in s c p b) ≡ comes_to s c w r
-  comes w (ProbeAnswer.Refused k) f = absurd f
-  comes w (ProbeAnswer.Free x i) f = placed-is f.1 ∙ rw f.0
-  comes w (ProbeAnswer.Path x i roots last) f = placed-is f.1 ∙ ap (λ (o : Ending). keeping c (settled c p o)) f.2.is ∙ rw (f.0, its-path w f.2)
-  comes w (ProbeAnswer.Exhausted k) f = placed-is f.0 ∙ ap (λ (o : Ending). keeping c (settled c p o)) f.1.is
+  pub comes : (w : List ℕ) (r : Placement) → Probed s c p b w r → keeping c (hold_in s c p b) ≡ comes_from s c w r
+  comes w (Placement.Free x i) f = placed-is f.1 ∙ rw f.0
+  comes w (Placement.Path x i roots last) f = placed-is f.1 ∙ ap (λ (o : Ending). keeping c (settled c p o)) f.2.is ∙ rw (f.0, its-path w f.2)
+  comes w (Placement.Exhausted k) f = placed-is f.0 ∙ ap (λ (o : Ending). keeping c (settled c p o)) f.1.is

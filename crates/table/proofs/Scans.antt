@@ -1,22 +1,23 @@
 -- The scan as the code makes it: four tests in a row, and one bucket of a list after the other.
 -- Assumes nothing.
-use mathlib.Core.Path.{◌≡◌, refl, sym, ap, subst, ◌∙◌}
-use mathlib.Core.Logic.{inl, inr, ◌≢◌}
-use mathlib.Core.Bool.{Bool, true, false, ◌||◌, cond}
-use mathlib.Core.Option.{Option, none, some}
+use mathlib.Core.Path.{◌≡◌, refl, sym, ap, ◌∙◌}
+use mathlib.Core.Logic.{inl, inr, ◌⊎◌}
+use mathlib.Core.Bool.{true, false, cond}
+use mathlib.Core.Option.{Option}
 use mathlib.Core.List.{List, [], ◌∷◌, ◌++◌}
-use Prim.Native.Nat.{ℕ, suc, ◌+◌, ◌*◌, ◌/◌, ◌≤◌, ◌<◌}
+use Prim.Native.Nat.{ℕ, ◌+◌, ◌*◌, ◌/◌, ◌≤◌, ◌<◌}
 use native.Mathlib.Numerals.{add-one}
 use native.Mathlib.Omega.{arith}
 use borrow.Author.Tests.{eq-eqb, ne_eqb}
-use lib.Dec.{T, eqb, eqb→eq}
-use lib.ListN.{length, get_or, take, drop, drop_of_length-le, take-append-drop}
-use lib.Seq.{take-suc, drop-cons, length-take-le, get_or-take}
+use lib.Dec.{eqb}
+use Rattle.std.specs.List.{list_any}
+use lib.ListN.{length, get_or, take, drop, take-append-drop}
+use lib.Seq.{take-suc, drop-cons}
 use Rattle.lemmas.specs.Count.{hit, occ, ◌among◌}
 use Rattle.lemmas.specs.Sums.{total_once}
-use Rattle.lemmas.proofs.Count.{T_of, eqb-ne, occ-append, hit-cases, hit-refl}
+use Rattle.lemmas.proofs.Count.{occ-append, hit-cases, hit-refl, hit-of, hit-ne}
 use Rattle.lemmas.proofs.Sums.{once-nil, once-new, once-again}
-use Rattle.calls.specs.Cells.{cell, scan, copies_at, lowest_at, or_else, in_first}
+use Rattle.calls.specs.Cells.{cell, scan, copies_at, lowest_at, in_first}
 use Rattle.calls.proofs.Laws.{scan-laws}
 
 -- ── the four tests of a bucket's cells, counted and in order ──
@@ -28,128 +29,66 @@ scanned c p b e f =
     let k : _ ≡ copies_at c p b = e ∙ omega arith in
     λ i. record { copies = k i; lowest = f i }
 
--- the first of four cells, by the four tests
-abbrev first_in_order : ℕ → Bool → Bool → Bool → Bool → Option ℕ
-first_in_order a x y z u = cond x (some a) (cond y (some (a + 1)) (cond z (some (a + 2)) (cond u (some (a + 3)) none)))
-
-pub first-told : (a : ℕ) (x y z u : Bool) → (x || y || z || u) ≡ true → {i : ℕ} → i ≡ cond x 0 (cond y 1 (cond z 2 3)) → some (a + i) ≡ first_in_order a x y z u
-first-told a true y z u t e = ap some (omega (arith, e))
-first-told a false true z u t e = ap some (omega (arith, e))
-first-told a false false true u t e = ap some (omega (arith, e))
-first-told a false false false true t e = ap some (omega (arith, e))
-first-told a false false false false t e = absurd (subst T (sym t) tt)
-
-pub none_told : (a : ℕ) (x y z u : Bool) → (x || y || z || u) ≡ false → none ≡ first_in_order a x y z u
-none_told a false false false false t = refl
-none_told a true y z u t = absurd (subst T t tt)
-none_told a false true z u t = absurd (subst T t tt)
-none_told a false false true u t = absurd (subst T t tt)
-none_told a false false false true t = absurd (subst T t tt)
-
--- ── the first n of a list, one after the other ──
-pub next_of : (bs : List ℕ) (n k : ℕ) → n ≤ length bs → k < n → drop k (take n bs) ≡ get_or bs k 0 ∷ drop (k + 1) (take n bs)
-next_of bs n k l h =
-    drop-cons (take n bs) k 0 (omega (arith, length-take-le n bs l))
-    ∙ rw (add-one k) (ap (λ (x : ℕ). x ∷ drop (suc k) (take n bs)) (get_or-take n bs k 0 h))
-
-pub none_left : (bs : List ℕ) (n k : ℕ) → n ≤ length bs → n ≤ k → drop k (take n bs) ≡ []
-none_left bs n k l h = drop_of_length-le (take n bs) {i = k} (omega (arith, length-take-le n bs l))
+-- ── a list, one after the other ──
+pub next_of : (xs : List ℕ) (k : ℕ) → k < length xs → drop k xs ≡ get_or xs k 0 ∷ drop (k + 1) xs
+next_of xs k h = rw add-one (drop-cons xs k 0 h)
 
 pub next-among : (xs : List ℕ) (j x : ℕ) → drop j xs ≡ x ∷ drop (j + 1) xs → x among xs
 next-among xs j x e = omega (arith, ap (occ x) (sym (take-append-drop j xs)) ∙ occ-append x (take j xs) (drop j xs), ap (occ x) e, hit-refl x)
 
--- ── the first n of four buckets ──
-pub record Listed (bs : List ℕ) (n : ℕ) : Type 0 where
-  pub few : n ≤ 4
-  pub four : length bs ≡ 4
-
-module _ {bs : List ℕ} {n : ℕ} (B : Listed bs n) {k : ℕ} where
-  listed-end : n ≤ k → drop k (take n bs) ≡ []
-  listed-end h = none_left bs n k (omega (arith, B.few, B.four)) h
-
-  module _ (h : k < n) where
-    listed_next : drop k (take n bs) ≡ get_or bs k 0 ∷ drop (k + 1) (take n bs)
-    listed_next = next_of bs n k (omega (arith, B.few, B.four)) h
-
-    pub listed-among : get_or bs k 0 among take n bs
-    listed-among = next-among (take n bs) k _ listed_next
-
-    listed_more : take (k + 1) bs ≡ take k bs ++ (get_or bs k 0 ∷ [])
-    listed_more = rw (add-one k) (take-suc bs k 0 (omega (arith, B.few, B.four)))
-
--- ── whether bucket b is one of them: those before place j are others ──
-pub record Others (bs : List ℕ) (n b j : ℕ) : Type 0 where
-  pub listed : Listed bs n
-  pub same : occ b (drop j (take n bs)) ≡ occ b (take n bs)
-
-module _ {bs : List ℕ} {n b j : ℕ} (K : Others bs n b j) where
-  pub others-next : j < n → get_or bs j 0 ≢ b → Others bs n b (j + 1)
-  others-next h d =
-      let z : hit b (get_or bs j 0) ≡ 0 = elim (hit-cases b (get_or bs j 0)) [ inl e ↦ absurd (d (sym e)) | inr z ↦ z ] in
-      record { listed = K.listed; same = omega (arith, K.same, ap (occ b) (listed_next K.listed h)) }
-
-  pub others-found : j < n → get_or bs j 0 ≡ b → false ≡ eqb (occ b (take n bs)) 0
-  others-found h e =
-      let m : b among take n bs = subst (λ (x : ℕ). x among take n bs) e (listed-among K.listed h) in
-      sym (ne_eqb (occ b (take n bs)) 0 (λ z. omega arith))
-
-  pub others-end : n ≤ j → true ≡ eqb (occ b (take n bs)) 0
-  others-end h = sym (eq-eqb (occ b (take n bs)) 0 (omega (arith, K.same, ap (occ b) (listed-end K.listed h))))
+pub at_among : (xs : List ℕ) (k : ℕ) → k < length xs → get_or xs k 0 among xs
+at_among xs k h = next-among xs k _ (next_of xs k h)
 
 -- ── the buckets in turn: bucket k, and none before it gave anything ──
-pub record Turn (f : ℕ → Option ℕ) (bs : List ℕ) (n k : ℕ) : Type 0 where
-  pub listed : Listed bs n
-  pub same : in_first f (drop k (take n bs)) ≡ in_first f (take n bs)
-
-module _ {f : ℕ → Option ℕ} {bs : List ℕ} {n k : ℕ} (K : Turn f bs n k) where
-  pub turns-end : n ≤ k → none ≡ in_first f (take n bs)
-  turns-end h = sym (ap (in_first f) (listed-end K.listed h)) ∙ K.same
-
-  module _ (h : k < n) where
-    given : {o : Option ℕ} → f (get_or bs k 0) ≡ o → or_else o (in_first f (drop (k + 1) (take n bs))) ≡ in_first f (take n bs)
-    given e = rw (sym e) (sym (ap (in_first f) (listed_next K.listed h)) ∙ K.same)
-
-    pub turn-found : {i : ℕ} → f (get_or bs k 0) ≡ some i → some i ≡ in_first f (take n bs)
-    turn-found e = given e
-
-    pub turn-none : f (get_or bs k 0) ≡ none → Turn f bs n (k + 1)
-    turn-none e = record { listed = K.listed; same = given e }
+pub record Turn (f : ℕ → Option ℕ) (bs : List ℕ) (k : ℕ) : Type 0 where
+  pub same : in_first f (drop k bs) ≡ in_first f bs
 
 -- ── the copies in the buckets before place k, each bucket counted once ──
-pub record Counted (c : List ℕ) (p : ℕ) (bs : List ℕ) (n copies k : ℕ) : Type 0 where
-  pub listed : Listed bs n
-  pub within : k ≤ n
+-- whether x is listed
+module _ (x : ℕ) where
+  pub listed-before : (xs : List ℕ) → list_any (λ y. eqb y x) xs ≡ true → x among xs
+  listed-before [] e = cc
+  listed-before (y ∷ xs) e = go (hit-cases x y) (listed-before xs)
+    where
+      go : (x ≡ y) ⊎ (hit x y ≡ 0) → (list_any (λ y. eqb y x) xs ≡ true → x among xs) → x among (y ∷ xs)
+      go (inl f) rec = omega (arith, hit-of x y f)
+      go (inr z) rec = omega (arith, rec (rw (ne_eqb y x (λ f. hit-ne x y z (sym f))) at e))
+
+  pub not-listed : (xs : List ℕ) → list_any (λ y. eqb y x) xs ≡ false → occ x xs ≡ 0
+  not-listed [] e = refl
+  not-listed (y ∷ xs) e = go (hit-cases x y) (not-listed xs)
+    where
+      go : (x ≡ y) ⊎ (hit x y ≡ 0) → (list_any (λ y. eqb y x) xs ≡ false → occ x xs ≡ 0) → occ x (y ∷ xs) ≡ 0
+      go (inl f) rec = absurd (let g = rw (eq-eqb y x (sym f)) at e in let z : ◌≡◌ {A = ℕ} 0 1 = cc in omega arith)
+      go (inr z) rec = omega (arith, z, rec (rw (ne_eqb y x (λ f. hit-ne x y z (sym f))) at e))
+
+pub record Counted (c : List ℕ) (p : ℕ) (bs : List ℕ) (copies k : ℕ) : Type 0 where
+  pub within : k ≤ length bs
   pub small : copies ≤ 4 * k
   pub so_far : copies ≡ total_once (length c / 4) (copies_at c p) (take k bs)
 
-pub counted_start : {c : List ℕ} {p : ℕ} {bs : List ℕ} {n : ℕ} → Listed bs n → Counted c p bs n 0 0
-counted_start B = record { listed = B; within = omega arith; small = omega arith; so_far = sym (once-nil _ _) }
+pub counted_start : (c : List ℕ) (p : ℕ) (bs : List ℕ) → Counted c p bs 0 0
+counted_start c p bs = record { within = omega arith; small = omega arith; so_far = sym (once-nil _ _) }
 
-module _ {c : List ℕ} {p : ℕ} {bs : List ℕ} {n t k : ℕ} (K : Counted c p bs n t k) where
+module _ {c : List ℕ} {p : ℕ} {bs : List ℕ} {t k : ℕ} (K : Counted c p bs t k) where
   abbrev sum : List ℕ → ℕ
   sum l = total_once (length c / 4) (copies_at c p) l
 
-  pub counted-end : n ≤ k → t ≡ sum (take n bs)
-  counted-end h = let e : k ≡ n = omega (arith, K.within) in subst (λ (x : ℕ). t ≡ sum (take x bs)) e K.so_far
+  module _ (h : k < length bs) (m : 4 * get_or bs k 0 + 4 ≤ length c) where
+    more : take (k + 1) bs ≡ take k bs ++ (get_or bs k 0 ∷ [])
+    more = rw add-one (take-suc bs k 0 h)
 
-  module _ (h : k < n) (m : 4 * get_or bs k 0 + 4 ≤ length c) where
     -- a bucket that was listed before, and one that was not
-    pub counted-again : eqb (occ (get_or bs k 0) (take k bs)) 0 ≡ false → Counted c p bs n t (k + 1)
-    counted-again e =
-        let q : occ (get_or bs k 0) (take k bs) ≢ 0 = eqb-ne (occ (get_or bs k 0) (take k bs)) 0 e in
-        record {
-          listed = K.listed;
-          within = omega arith;
-          small = omega (arith, K.small);
-          so_far = omega (arith, K.so_far, ap sum (listed_more K.listed h), once-again (length c / 4) (copies_at c p) (take k bs) (get_or bs k 0) (omega arith) (omega arith));
-        }
+    pub counted-again : get_or bs k 0 among take k bs → Counted c p bs t (k + 1)
+    counted-again e = record {
+      within = omega arith;
+      small = omega (arith, K.small);
+      so_far = omega (arith, K.so_far, ap sum more, once-again (length c / 4) (copies_at c p) (take k bs) (get_or bs k 0) (omega arith) e);
+    }
 
-    pub counted-new : eqb (occ (get_or bs k 0) (take k bs)) 0 ≡ true → {v : ℕ} → v ≡ copies_at c p (get_or bs k 0) → Counted c p bs n (t + v) (k + 1)
-    counted-new e f =
-        let g : occ (get_or bs k 0) (take k bs) ≡ 0 = eqb→eq (occ (get_or bs k 0) (take k bs)) 0 (T_of e) in
-        record {
-          listed = K.listed;
-          within = omega arith;
-          small = omega (arith, K.small, f, scan-laws.most c p (get_or bs k 0));
-          so_far = omega (arith, K.so_far, f, ap sum (listed_more K.listed h), once-new (length c / 4) (copies_at c p) (take k bs) (get_or bs k 0) (omega arith) g);
-        }
+    pub counted-new : occ (get_or bs k 0) (take k bs) ≡ 0 → {v : ℕ} → v ≡ copies_at c p (get_or bs k 0) → Counted c p bs (t + v) (k + 1)
+    counted-new e f = record {
+      within = omega arith;
+      small = omega (arith, K.small, f, scan-laws.most c p (get_or bs k 0));
+      so_far = omega (arith, K.so_far, f, ap sum more, once-new (length c / 4) (copies_at c p) (take k bs) (get_or bs k 0) (omega arith) e);
+    }

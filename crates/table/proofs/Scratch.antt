@@ -1,6 +1,7 @@
 -- Scratch as a sparse set: which buckets are marked in it, what a bucket that is queued changes, and the paths of its entries.
 -- Assumes nothing.
 use mathlib.Core.Path.{◌≡◌, refl, sym, ap, ◌∙◌}
+use mathlib.Core.Logic.{◌≢◌}
 use mathlib.Core.Bool.{Bool, true, false, cond}
 use mathlib.Core.List.{List, [], ◌∷◌, ◌++◌}
 use Prim.Native.Nat.{ℕ, zero, suc, ◌+◌, ◌*◌, ◌-◌, ◌/◌, ◌%◌, ◌≤◌, ◌<◌}
@@ -12,11 +13,9 @@ use borrow.Author.Tests.{eqb-true, eqb-false, eq-eqb, ne_eqb, lt-ltb, le-ltb}
 use lib.Dec.{eqb, ltb}
 use lib.ListN.{length, get_or, set, length-append, length-set, get_or-append}
 use lib.Seq.{get_or-set_same, get_or-set_other, get_or_at}
-use Rattle.calls.specs.Cells.{lowest_empty}
 use Rattle.calls.specs.Search.{Node, node, marked}
-use Rattle.table.specs.declared.Place.{Place}
-use Rattle.table.specs.Scratch.{bucket_in, parent_in, place_in, origin_in, node_in, queue_in, path_in, Sparse}
-use Rattle.table.specs.Internal.{place_is, reached, Queues, Visits}
+use Rattle.table.specs.Scratch.{bucket_in, parent_in, origin_in, node_in, queue_in, path_in, Sparse}
+use Rattle.table.specs.Internal.{reached, Queues}
 use Rattle.calls.specs.Laws.{Distinct}
 use Rattle.calls.proofs.Laws.{queue-laws}
 
@@ -108,17 +107,6 @@ module _ {m : ℕ} {w : List ℕ} {t : ℕ} (sp : Sparse m w t) where
   pub sparse-room : (roots b : ℕ) → b < m → marked b (queue_in m w roots t) ≡ false → t < m
   sparse-room roots b l e = omega (arith, (queue-laws m).room (queue_in m w roots t) (node b []) (distinct-upto roots t (omega arith)) l e, queue-length m w roots t)
 
--- fewer entries are a sparse set too
-pub sparse-less : {m : ℕ} {w : List ℕ} {t : ℕ} (k : ℕ) → k ≤ t → Sparse m w t → Sparse m w k
-sparse-less k h sp = record {
-  big = sp.big;
-  small = sp.small;
-  count = omega (arith, sp.count);
-  low = λ i l. sp.low i (omega arith);
-  back = λ i l. sp.back i (omega arith);
-  older = λ i l. sp.older i (omega arith);
-}
-
 -- ── a bucket is queued: the words of the old entries stand, and the new one stands at the tail ──
 abbrev pub stored : ℕ → List ℕ → ℕ → ℕ → ℕ → ℕ → List ℕ
 stored m w t b h k = set (set w t (b + 65536 * h)) (m + b) (4 * t + k)
@@ -184,7 +172,7 @@ module _ (m : ℕ) (w : List ℕ) (t b h k : ℕ) (sp : Sparse m w t) (hb : b < 
   unfolding queue_in
   queue-more roots n e = rw (add-one t, queue-old roots t (omega arith), e)
 
-  sparse-new : Sparse m (stored m w t b h k) (t + 1)
+  pub sparse-new : Sparse m (stored m w t b h k) (t + 1)
   sparse-new = record {
     big = simp length-set sp.big;
     small = sp.small;
@@ -207,25 +195,25 @@ module _ (m : ℕ) (w : List ℕ) (t b h k : ℕ) (sp : Sparse m w t) (hb : b < 
       ) in
       same-node roots t (queue_in m w roots t) bucket-new e parent-new ∙ rw (le-ltb t roots l)
 
-  pub queues-new : Queues m b h k w t (stored m w t b h k)
-  queues-new = record {
-    sparse = sparse-new;
-    root = λ roots l. queue-more roots (node b []) (root-new roots l);
-    later = λ roots o l. queue-more roots (reached (queue_in m w roots t) b h k) (later-new roots o l);
+  -- the old entries stand also where the first word alone is written
+  first-old : (i : ℕ) → i ≢ t → get_or (set w t (b + 65536 * h)) i 0 ≡ get_or w i 0
+  first-old i n = get_or-set_other w t i (b + 65536 * h) 0 n
+
+  pub sparse-first : Sparse m (set w t (b + 65536 * h)) t
+  sparse-first = record {
+    big = simp length-set sp.big;
+    small = sp.small;
+    count = sp.count;
+    low = λ i l. rw (first-old i (λ e. omega arith)) (sp.low i l);
+    back = λ i l. rw (first-old i (λ e. omega arith))
+        (rw (first-old (m + bucket_in w i) (λ e. omega arith)) (sp.back i l));
+    older = λ i l. rw (first-old i (λ e. omega arith)) (sp.older i l);
   }
 
--- ── a bucket is looked at: it was marked, or it is queued ──
-module _ {c : List ℕ} {m b h k : ℕ} {w : List ℕ} {t : ℕ} where
-  pub visit-marked : ((roots : ℕ) → true ≡ marked b (queue_in m w roots t)) → Sparse m w t → Visits c m b h k w t w (record { tail = t; place = Place.Nowhere })
-  visit-marked e sp = record { sparse = sp; grows = omega arith; queue = λ roots o l. rw (sym (e roots)); place = λ roots. rw (sym (e roots)) }
-
-  pub visit-queued : {w' : List ℕ} {x : Place} → ((roots : ℕ) → false ≡ marked b (queue_in m w roots t)) → Queues m b h k w t w' → place_is x ≡ lowest_empty c b
-      → Visits c m b h k w t w' (record { tail = t + 1; place = x })
-  visit-queued e v f = record {
-    sparse = v.sparse;
-    grows = omega arith;
-    queue = λ roots o l. rw (sym (e roots)) (v.later roots o l);
-    place = λ roots. rw (sym (e roots)) f;
+  pub queues-new : Queues m b h k w t (stored m w t b h k)
+  queues-new = record {
+    root = λ roots l. queue-more roots (node b []) (root-new roots l);
+    later = λ roots o l. queue-more roots (reached (queue_in m w roots t) b h k) (later-new roots o l);
   }
 
 -- ── the roots are those of the queue at the start, however many there may be ──
@@ -249,11 +237,3 @@ module _ (m : ℕ) (w : List ℕ) (roots : ℕ) where
 
   pub path-later : (i : ℕ) → roots ≤ i → parent_in w i < i → path_in m w roots i ≡ origin_in m w i ∷ path_in m w roots (parent_in w i)
   path-later i h l = rw (path-node i, le-ltb i roots h, path-at i (parent_in w i) l)
-
--- the cell of an entry from its three words
-pub origin-is : {m : ℕ} {w : List ℕ} (i : ℕ) {x y z : ℕ} → Sparse m w (i + 1) → x ≡ get_or w i 0 → y ≡ get_or w (m + x % 65536) 0 → z ≡ get_or w (x / 65536) 0
-    → (4 * (z % 65536) + y % 4 < 4 * m) × (4 * (z % 65536) + y % 4 ≡ origin_in m w i)
-origin-is {m} {w} i {y = y} {z = z} sp e f g =
-    let b : z % 65536 ≡ bucket_in w (parent_in w i) = ap (λ v. v % 65536) (g ∙ ap (λ v. get_or w (v / 65536) 0) e) in
-    let k : y % 4 ≡ place_in m w i = ap (λ v. v % 4) (f ∙ ap (λ v. get_or w (m + v % 65536) 0) e) in
-    (omega (arith, sp.low (parent_in w i) (omega (arith, sp.older i (omega arith)))), omega arith)

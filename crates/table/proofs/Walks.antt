@@ -10,62 +10,29 @@ use native.Mathlib.Omega.{arith}
 use native.Mathlib.Numerals.{add-one}
 use native.Mathlib.Decide.{dec_lt}
 use borrow.Author.Tests.{lt-ltb, le-ltb}
-use lib.ListN.{length, get_or, take, drop, set, length-append, drop_of_length-le, get_or-append}
-use Rattle.lemmas.specs.Count.{◌among◌}
-use Rattle.index.specs.Candidates.{candidates}
-use Rattle.index.specs.Laws.{Laws}
+use lib.ListN.{length, get_or, drop, set, length-append, drop_of_length-le, get_or-append}
+use Rattle.std.specs.Prelude as std
+use Rattle.index.specs.Candidates.{others}
 use Rattle.index.specs.declared.Settings.{Settings}
 use Rattle.calls.specs.Cells.{cell, cells_of, lowest_empty}
 use Rattle.calls.specs.Search.{Node, node, marked, Ending, found, exhausted, arrive, walk, through, leads_to, search_from, roots_from, relocate}
 use Rattle.table.specs.Scratch.{bucket_in, parent_in, origin_in, node_in, queue_in, path_in, Sparse, Stands}
 use Rattle.table.specs.Probes.{Ended, RanOut}
-use Rattle.table.specs.Internal.{place_is, Queues, Visits}
-use Rattle.table.specs.declared.Visited.{Visited}
-use Rattle.table.proofs.Scans.{next_of, none_left, next-among}
+use Rattle.table.specs.Internal.{place_is, Visits}
 use Rattle.table.proofs.Scratch.{queue-length, queue-at, roots-any, path-root, path-later}
 
 -- ── the roots ──
--- the first n of the buckets are queued, from number k on
-pub record AtSeed (m : ℕ) (bs : List ℕ) (n : ℕ) (w₀ w : List ℕ) (tail k : ℕ) : Type 0 where
-  pub few : n ≤ length bs
-  pub len : length w ≡ length w₀
-  pub sparse : Sparse m w tail
-  pub same : roots_from (drop k (take n bs)) (queue_in m w m tail) ≡ roots_from (take n bs) []
+-- the buckets before number k are queued
+pub record AtSeed (m : ℕ) (bs : List ℕ) (w : List ℕ) (tail k : ℕ) : Type 0 where
+  pub same : roots_from (drop k bs) (queue_in m w m tail) ≡ roots_from bs []
 
-pub seed-starts : {m : ℕ} {bs : List ℕ} {n : ℕ} {w : List ℕ} → n ≤ length bs → 2 * m ≤ length w → m ≤ 65536 → AtSeed m bs n w w 0 0
+pub seed-starts : {m : ℕ} {bs w : List ℕ} → AtSeed m bs w 0 0
 unfolding queue_in
-seed-starts f h l = record {
-  few = f;
-  len = refl;
-  sparse = record {
-    big = h;
-    small = l;
-    count = omega arith;
-    low = λ i b. absurd (omega arith);
-    back = λ i b. absurd (omega arith);
-    older = λ i b. absurd (omega arith);
-  };
-  same = refl;
-}
+seed-starts = record { same = refl }
 
-module _ {m : ℕ} {bs : List ℕ} {n : ℕ} {w₀ w : List ℕ} {tail k : ℕ} (a : AtSeed m bs n w₀ w tail k) where
-  module _ (h : k < n) where
-    pub seed-among : get_or bs k 0 among take n bs
-    seed-among = next-among (take n bs) k _ (next_of bs n k a.few h)
-
-    module _ {b : ℕ} (e : b ≡ get_or bs k 0) where
-      here : roots_from (b ∷ drop (k + 1) (take n bs)) (queue_in m w m tail) ≡ roots_from (take n bs) []
-      here = rw e (rw (next_of bs n k a.few h) at a.same)
-
-      pub seed-skips : marked b (queue_in m w m tail) ≡ true → AtSeed m bs n w₀ w tail (k + 1)
-      seed-skips f = record { few = a.few; len = a.len; sparse = a.sparse; same = rw f at here }
-
-      pub seed-queues : {w' : List ℕ} {x y : ℕ} → length w' ≡ length w → marked b (queue_in m w m tail) ≡ false → tail < m
-          → Queues m b x y w tail w' → AtSeed m bs n w₀ w' (tail + 1) (k + 1)
-      seed-queues g f r v = record { few = a.few; len = g ∙ a.len; sparse = v.sparse; same = rw (v.root m r) (rw f at here) }
-
-  pub seed-ends : n ≤ k → queue_in m w tail tail ≡ roots_from (take n bs) []
-  seed-ends h = roots-any m w tail m tail (omega arith) a.sparse.count ∙ (rw (none_left bs n k a.few h) at a.same)
+module _ {m : ℕ} {bs w : List ℕ} {tail k : ℕ} (a : AtSeed m bs w tail k) where
+  pub seed-ends : tail ≤ m → length bs ≤ k → queue_in m w tail tail ≡ roots_from bs []
+  seed-ends l h = roots-any m w tail m tail (omega arith) l ∙ (rw (drop_of_length-le bs {i = k} h) at a.same)
 
 -- ── the moves ──
 -- entry `at` of the queue is reached, and `space` is free
@@ -214,13 +181,13 @@ module _ (s : Settings) (c : List ℕ) (roots : ℕ) where
       go zero = refl
       go (suc turns) = rw (le-ltb head (length (queue q)) (rw queue-length h))
 
-  cell-starts : Laws s → (q₀ : State) (head k b : ℕ) (xs : List ℕ) (q : State) → k < 4 → b ≡ bucket_in q₀.words head → xs ≡ candidates s (cell c (4 * b + k)) b
-      → from_other (entry q₀ head) head k xs 1 q ≡ from_cell (entry q₀ head) head k q
+  cell-starts : (q₀ : State) (head k b : ℕ) (xs : List ℕ) (q : State) → k < 4 → b ≡ bucket_in q₀.words head → xs ≡ others s (cell c (4 * b + k)) b
+      → from_other (entry q₀ head) head k xs 0 q ≡ from_cell (entry q₀ head) head k q
   unfolding from_cell from_other
-  cell-starts L q₀ head k b xs q h e f =
-      let g : xs ≡ candidates s (cell c (4 * (entry q₀ head).bucket + k)) (entry q₀ head).bucket =
-      f ∙ ap (λ (y : ℕ). candidates s (cell c (4 * y + k)) y) (e ∙ sym (entry-bucket q₀ head)) in
-      rw (cells-from (entry q₀ head).bucket k h, g, L.first (cell c (4 * (entry q₀ head).bucket + k)) (entry q₀ head).bucket)
+  cell-starts q₀ head k b xs q h e f =
+      let g : xs ≡ others s (cell c (4 * (entry q₀ head).bucket + k)) (entry q₀ head).bucket =
+      f ∙ ap (λ (y : ℕ). others s (cell c (4 * y + k)) y) (e ∙ sym (entry-bucket q₀ head)) in
+      rw (cells-from (entry q₀ head).bucket k h, g)
 
   cell-ends : (n : Node) (head k : ℕ) (xs : List ℕ) (j : ℕ) (q : State) → drop j xs ≡ [] → from_cell n head (k + 1) q ≡ from_other n head k xs j q
   unfolding from_cell from_other
@@ -231,23 +198,20 @@ module _ (s : Settings) (c : List ℕ) (roots : ℕ) where
   turn-ends n head k q h = rw (no_cells n.bucket k h, add-one head)
 
   -- a candidate is looked at, from entry `head`, which is node n
-  abbrev visited : State → List ℕ → Visited → State
-  visited q w r = state w r.tail
-
-  module _ (q : State) {x head k : ℕ} {w' : List ℕ} {r : Visited} (o : 1 ≤ roots) (l : roots ≤ q.tail) (hh : head < q.tail)
-      (v : Visits c s.buckets x head k q.words q.tail w' r) (n : Node) (is : entry q head ≡ n) where
+  module _ (q q' : State) {x head k : ℕ} {r : std.Option ℕ} (o : 1 ≤ roots) (l : roots ≤ q.tail) (hh : head < q.tail)
+      (v : Visits c s.buckets x head k q.words q.tail q'.words q'.tail r) (n : Node) (is : entry q head ≡ n) where
     abbrev to : Node
     to = node x ((4 * n.bucket + k) ∷ n.path)
 
-    its-queue : queue (visited q w' r) ≡ cond (marked x (queue q)) (queue q) (queue q ++ (to ∷ []))
+    its-queue : queue q' ≡ cond (marked x (queue q)) (queue q) (queue q ++ (to ∷ []))
     its-queue =
         v.queue roots o l
         ∙ ap (λ (y : Node). cond (marked x (queue q)) (queue q) (queue q ++ (node x ((4 * y.bucket + k) ∷ y.path) ∷ []))) (entry_at q head hh ∙ is)
 
     -- entry `head` stays what it was
-    same-entry : entry (visited q w' r) head ≡ n
+    same-entry : entry q' head ≡ n
     same-entry =
-        sym (entry_at (visited q w' r) head (omega (arith, v.grows)))
+        sym (entry_at q' head (omega (arith, v.grows)))
         ∙ ap (λ (y : List Node). get_or y head (node 0 [])) its-queue ∙ kept (marked x (queue q)) ∙ entry_at q head hh ∙ is
       where
         kept : (b : Bool) → get_or (cond b (queue q) (queue q ++ (to ∷ []))) head (node 0 []) ≡ get_or (queue q) head (node 0 [])
@@ -255,11 +219,11 @@ module _ (s : Settings) (c : List ℕ) (roots : ℕ) where
         kept false = get_or-append (queue q) (to ∷ []) (node 0 []) head (rw queue-length hh)
 
     module _ (xs : List ℕ) (j : ℕ) (e : drop j xs ≡ x ∷ drop (j + 1) xs) where
-      goes_on : none ≡ place_is r.place → from_other n head k xs (j + 1) (visited q w' r) ≡ from_other n head k xs j q
+      goes_on : none ≡ place_is r → from_other n head k xs (j + 1) q' ≡ from_other n head k xs j q
       unfolding from_other
       goes_on f = rw (its-queue, e) (step-on c to (nodes n k (drop (j + 1) xs)) (queue q) (after head) (f ∙ v.place roots))
 
-      hits : (i : ℕ) → some i ≡ place_is r.place → (found i to (queue q) ≡ from_other n head k xs j q) × (queue (visited q w' r) ≡ queue q ++ (to ∷ []))
+      hits : (i : ℕ) → some i ≡ place_is r → (found i to (queue q) ≡ from_other n head k xs j q) × (queue q' ≡ queue q ++ (to ∷ []))
       unfolding from_other
       hits i f = let a = step-ends c to (nodes n k (drop (j + 1) xs)) (queue q) (after head) i (f ∙ v.place roots) in (rw e a.0, its-queue ∙ a.1)
 
@@ -278,24 +242,17 @@ module _ (s : Settings) (c : List ℕ) (roots : ℕ) where
 
   -- ── the loops' invariants: q₀ is as the loop began ──
   pub record AtQueue (q₀ : State) (head₀ : ℕ) (q : State) (head : ℕ) : Type 0 where
-    pub len : length q.words ≡ length q₀.words
-    pub sparse : Sparse s.buckets q.words q.tail
     pub order : head ≤ q.tail
     pub rooted : roots ≤ q.tail
     pub same : from_queue head q ≡ from_queue head₀ q₀
 
   -- the queue has grown, and entry `head` is as it was
   pub record Since (head : ℕ) (q₀ q : State) : Type 0 where
-    pub len : length q.words ≡ length q₀.words
-    pub sparse : Sparse s.buckets q.words q.tail
     pub order : q₀.tail ≤ q.tail
     pub stays : entry q head ≡ entry q₀ head
 
-  pub since-start : {head : ℕ} {q : State} → Sparse s.buckets q.words q.tail → Since head q q
-  since-start sp = record { len = refl; sparse = sp; order = omega arith; stays = refl }
-
   since-then : {head : ℕ} {q₀ q₁ q₂ : State} → Since head q₀ q₁ → Since head q₁ q₂ → Since head q₀ q₂
-  since-then a b = record { len = b.len ∙ a.len; sparse = b.sparse; order = omega (arith, a.order, b.order); stays = b.stays ∙ a.stays }
+  since-then a b = record { order = omega (arith, a.order, b.order); stays = b.stays ∙ a.stays }
 
   pub record AtCell (head : ℕ) (q₀ : State) (k₀ : ℕ) (q : State) (k : ℕ) : Type 0 where
     pub since : Since head q₀ q
@@ -304,59 +261,55 @@ module _ (s : Settings) (c : List ℕ) (roots : ℕ) where
 
   pub record AtOther (head k : ℕ) (xs : List ℕ) (q₀ : State) (j₀ : ℕ) (q : State) (j : ℕ) : Type 0 where
     pub since : Since head q₀ q
-    pub later : 1 ≤ j
     pub same : from_other (entry q₀ head) head k xs j q ≡ from_other (entry q₀ head) head k xs j₀ q₀
 
   -- ── a turn of each ──
   module _ (o : 1 ≤ roots) {head : ℕ} where
     -- a candidate that is not the end
-    pub other-on : {k j₀ j x : ℕ} {xs w' : List ℕ} {q₀ q : State} {r : Visited} → AtOther head k xs q₀ j₀ q j → roots ≤ q₀.tail → head < q₀.tail → length w' ≡ length q.words
-        → drop j xs ≡ x ∷ drop (j + 1) xs → Visits c s.buckets x head k q.words q.tail w' r → none ≡ place_is r.place
-        → AtOther head k xs q₀ j₀ (visited q w' r) (j + 1)
-    other-on {j = j} {xs = xs} {q = q} a l h g e v f =
+    pub other-on : {k j₀ j x : ℕ} {xs : List ℕ} {q₀ q q' : State} {r : std.Option ℕ} → AtOther head k xs q₀ j₀ q j → roots ≤ q₀.tail → head < q₀.tail
+        → drop j xs ≡ x ∷ drop (j + 1) xs → Visits c s.buckets x head k q.words q.tail q'.words q'.tail r → none ≡ place_is r
+        → AtOther head k xs q₀ j₀ q' (j + 1)
+    other-on {j = j} {xs = xs} {q = q} {q' = q'} a l h e v f =
         let ht : head < q.tail = omega (arith, a.since.order) in
         let lt : roots ≤ q.tail = omega (arith, a.since.order) in
         record {
-          since = since-then a.since (record { len = g; sparse = v.sparse; order = v.grows; stays = same-entry q o lt ht v _ refl });
-          later = omega (arith, a.later);
-          same = goes_on q o lt ht v _ a.since.stays xs j e f ∙ a.same;
+          since = since-then a.since (record { order = v.grows; stays = same-entry q q' o lt ht v _ refl });
+          same = goes_on q q' o lt ht v _ a.since.stays xs j e f ∙ a.same;
         }
 
     -- a cell whose candidates are looked at
-    pub cell-on : {k₀ k j : ℕ} {xs : List ℕ} {q₀ q q' : State} → Laws s → AtCell head q₀ k₀ q k → k < 4 → (b : ℕ) → b ≡ bucket_in q₀.words head → xs ≡ candidates s (cell c (4 * b + k)) b
-        → AtOther head k xs q 1 q' j → drop j xs ≡ [] → AtCell head q₀ k₀ q' (k + 1)
-    cell-on {k₀} {k} {j} {xs} {q₀} {q} {q'} L a h b eb e u d = record {
+    pub cell-on : {k₀ k j : ℕ} {xs : List ℕ} {q₀ q q' : State} → AtCell head q₀ k₀ q k → k < 4 → (b : ℕ) → b ≡ bucket_in q₀.words head → xs ≡ others s (cell c (4 * b + k)) b
+        → AtOther head k xs q 0 q' j → length xs ≤ j → AtCell head q₀ k₀ q' (k + 1)
+    cell-on {k₀} {k} {j} {xs} {q₀} {q} {q'} a h b eb e u d = record {
       since = since-then a.since u.since;
       cells = omega arith;
-      same = cell-ends (entry q₀ head) head k xs j q' d
-          ∙ subst (λ (y : Node). from_other y head k xs j q' ≡ from_other y head k xs 1 q) a.since.stays u.same
-          ∙ cell-starts L q₀ head k b xs q h eb e ∙ a.same;
+      same = cell-ends (entry q₀ head) head k xs j q' (drop_of_length-le xs {i = j} d)
+          ∙ subst (λ (y : Node). from_other y head k xs j q' ≡ from_other y head k xs 0 q) a.since.stays u.same
+          ∙ cell-starts q₀ head k b xs q h eb e ∙ a.same;
     }
 
     -- an entry whose cells are done
-    pub queue-on : {head₀ k : ℕ} {q₀ q q' : State} → AtQueue q₀ head₀ q head → head < q.tail → AtCell head q 0 q' k → 4 ≤ k → AtQueue q₀ head₀ q' (head + 1)
-    queue-on {k = k} {q = q} {q' = q'} t h a d = record {
-      len = a.since.len ∙ t.len;
-      sparse = a.since.sparse;
+    pub queue-on : {head₀ k : ℕ} {q₀ q q' : State} → AtQueue q₀ head₀ q head → q.tail ≤ s.buckets → head < q.tail → AtCell head q 0 q' k → 4 ≤ k → AtQueue q₀ head₀ q' (head + 1)
+    queue-on {k = k} {q = q} {q' = q'} t m h a d = record {
       order = omega (arith, a.since.order);
       rooted = omega (arith, a.since.order, t.rooted);
-      same = turn-ends (entry q head) head k q' d ∙ a.same ∙ turn head q h t.sparse.count ∙ t.same;
+      same = turn-ends (entry q head) head k q' d ∙ a.same ∙ turn head q h m ∙ t.same;
     }
 
     -- every entry is done
-    pub queue-ends : {q₀ q : State} → AtQueue q₀ 0 q head → q.tail ≤ head
+    pub queue-ends : {q₀ q : State} → AtQueue q₀ 0 q head → Sparse s.buckets q.words q.tail → q.tail ≤ head
         → RanOut (search_from s c s.buckets 0 (queue q₀)) s.buckets q.words q.tail
-    queue-ends {q₀} {q} t h = says-exhausted q _ t.sparse (sym (done head q h) ∙ t.same ∙ starts q₀)
+    queue-ends {q₀} {q} t sp h = says-exhausted q _ sp (sym (done head q h) ∙ t.same ∙ starts q₀)
 
     -- a candidate that is the end: q₁ is where the cells' loop began, q₂ where the candidates' did
-    pub ends_found : {k j x : ℕ} {xs w' : List ℕ} {q₀ q₁ q₂ q : State} {r : Visited} → Laws s → AtQueue q₀ 0 q₁ head → head < q₁.tail → AtCell head q₁ 0 q₂ k → k < 4
-        → (b : ℕ) → b ≡ bucket_in q₁.words head → xs ≡ candidates s (cell c (4 * b + k)) b → AtOther head k xs q₂ 1 q j
-        → drop j xs ≡ x ∷ drop (j + 1) xs → Visits c s.buckets x head k q.words q.tail w' r → (i : ℕ) → some i ≡ place_is r.place
-        → Ended (search_from s c s.buckets 0 (queue q₀)) s.buckets w' i roots (r.tail - 1)
-    ends_found {k} {j} {x} {xs} {w'} {q₀} {q₁} {q₂} {q} {r} L t h a hk b eb e u d v i f =
+    pub ends_found : {k j x : ℕ} {xs : List ℕ} {q₀ q₁ q₂ q q' : State} {r : std.Option ℕ} → AtQueue q₀ 0 q₁ head → q₁.tail ≤ s.buckets → head < q₁.tail → AtCell head q₁ 0 q₂ k → k < 4
+        → (b : ℕ) → b ≡ bucket_in q₁.words head → xs ≡ others s (cell c (4 * b + k)) b → AtOther head k xs q₂ 0 q j
+        → drop j xs ≡ x ∷ drop (j + 1) xs → Visits c s.buckets x head k q.words q.tail q'.words q'.tail r → Sparse s.buckets q'.words q'.tail
+        → (i : ℕ) → some i ≡ place_is r → Ended (search_from s c s.buckets 0 (queue q₀)) s.buckets q'.words i roots (q'.tail - 1)
+    ends_found {k} {j} {x} {xs} {q₀} {q₁} {q₂} {q} {q'} {r} t m h a hk b eb e u d v sp i f =
         let whole : Since head q₁ q = since-then a.since u.since in
-        let last = hits q o (omega (arith, t.rooted, whole.order)) (omega (arith, whole.order)) v (entry q₁ head) whole.stays xs j d i f in
-        says-found (visited q w' r) _ v.sparse o i _ _
-        (last.0 ∙ subst (λ (y : Node). from_other y head k xs j q ≡ from_other y head k xs 1 q₂) a.since.stays u.same
-        ∙ cell-starts L q₁ head k b xs q₂ hk eb e ∙ a.same ∙ turn head q₁ h t.sparse.count ∙ t.same ∙ starts q₀)
+        let last = hits q q' o (omega (arith, t.rooted, whole.order)) (omega (arith, whole.order)) v (entry q₁ head) whole.stays xs j d i f in
+        says-found q' _ sp o i _ _
+        (last.0 ∙ subst (λ (y : Node). from_other y head k xs j q ≡ from_other y head k xs 0 q₂) a.since.stays u.same
+        ∙ cell-starts q₁ head k b xs q₂ hk eb e ∙ a.same ∙ turn head q₁ h m ∙ t.same ∙ starts q₀)
         last.1

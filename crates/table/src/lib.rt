@@ -2,57 +2,38 @@
 // b is cells 4b to 4b + 3, and 0 is an empty cell.
 #![tactic(auto)]
 
-ghost use Rattle.std.specs.Prelude.{◌≡◌, ◌||◌, cond, ℕ, ◌+◌, ◌*◌, ◌/◌, ◌%◌, ◌^◌, ◌<◌, ◌≤◌, eqb, length, take, set};
+ghost use Rattle.std.specs.Prelude.{◌≡◌, cond, ℕ, ◌+◌, ◌*◌, ◌/◌, ◌%◌, ◌^◌, ◌<◌, ◌≤◌, eqb, length, set};
+ghost use Rattle.std.specs.List.{list_any};
 ghost use Rattle.std.proofs.Math.Option.{none, some};
-ghost use Rattle.lemmas.specs.Count.{occ, ◌among◌};
+ghost use Rattle.lemmas.specs.Count.{◌among◌};
 ghost use Rattle.lemmas.specs.Sums.{total_once};
-ghost use Rattle.refusals.specs.Checks.{first_met, number_of};
+ghost use Rattle.refusals.specs.Checks.{first_met};
 ghost use Rattle.refusals.specs.Outcomes.{outcome};
+ghost use Rattle.refusals.specs.Refusals.{refused_by};
 ghost use Rattle.calls.specs.Cells.{scan as scan_of, copies_at, lowest_at, in_first, filled_count};
 ghost use Rattle.calls.specs.Calls.{table_checks, clear_table, lookup as lookup_of, release as release_of};
 ghost use Rattle.table.specs.Answers.{clear_is, lookup_is, release_is};
 ghost use Rattle.table.specs.Internal.{place_is, scanned_is};
 
-use index::{CandidateList, Settings, TagEntry};
+use index::Settings;
+use refusals::Refusal;
 
+mod queue;
 mod search;
 
 pub use search::{hold, probe};
-
-// A cell's number, where one is found.
-#[derive(Clone, Copy)]
-enum Place {
-    At(usize),
-    Nowhere,
-}
 
 // What the scan of a bucket reports: how many of its cells hold the fingerprint, and the lowest of them.
 #[derive(Clone, Copy)]
 struct Scanned {
     copies: u32,
-    lowest: Place,
-}
-
-// What looking at a bucket comes to: the queue's length after it, and the bucket's lowest empty cell if
-// it was not marked before.
-#[derive(Clone, Copy)]
-struct Visited {
-    tail: usize,
-    place: Place,
-}
-
-// How a search ends: with an empty cell and the queue index of its bucket, or with none and the number of buckets marked.
-#[derive(Clone, Copy)]
-enum SearchAnswer {
-    Found(usize, usize),
-    Exhausted(usize),
+    lowest: Option<usize>,
 }
 
 // Where the entry of a tag would go: to an empty cell of one of its candidates; to one at the end of a relocation path, with how many
 // entries of the queue are roots and the queue index of the cell's bucket; or nowhere, with the number of buckets marked.
-#[derive(Clone, Copy)]
-pub enum ProbeAnswer {
-    Refused(u32),
+#[derive(Clone, Copy, Debug, PartialEq, Eq)]
+pub enum Placement {
     Free {
         print: u16,
         cell: usize,
@@ -66,67 +47,30 @@ pub enum ProbeAnswer {
     Exhausted(usize),
 }
 
-#[derive(Clone, Copy)]
-pub enum ClearAnswer {
-    Cleared,
-    Refused(u32),
-}
-
-// Copies has the number of copies: the tag is held where it is above 0.
-#[derive(Clone, Copy)]
-pub enum LookupAnswer {
-    Copies(u32),
-    Refused(u32),
-}
-
-#[derive(Clone, Copy)]
-pub enum ReleaseAnswer {
+// What a release finds: a copy, which it takes out, or none.
+#[derive(Clone, Copy, Debug, PartialEq, Eq)]
+pub enum Removal {
     Released,
     Absent,
-    Refused(u32),
 }
 
-// Accepted has the number of entries that moved.
-#[derive(Clone, Copy)]
-pub enum HoldAnswer {
-    Accepted(u32),
-    Refused(u32),
-}
-
-// The number that refuses the settings or the table, 0 where both pass. Every form of a table checks by it.
-pub fn table_refusal(s: Settings, table: &[u16]) -> u32
-    ensures { result ≡ number_of (first_met (table_checks s table.now)) }
+// The checks of settings and table. Every form of a table checks by it.
+pub fn table_check(s: Settings, table: &[u16]) -> Result<(), Refusal>
+    ensures { refused_by result ≡ first_met (table_checks s table.now) }
 {
-    let n = s.refusal();
-    if n != 0 {
-        return n;
-    }
+    s.check()?;
     let m = s.buckets as usize;
     if table.len() != 4 * m {
-        return 5;
+        return Err(Refusal::Cells);
     }
-    0
-}
-
-// 1 for true.
-fn one(b: bool) -> u32
-    ensures { (result ≡ cond b 1 0) × (result ≤ 1) }
-{
-    if b { 1 } else { 0 }
+    Ok(())
 }
 
 // Four tests, one for each cell of a bucket: how many of them hold.
 fn copies(x: bool, y: bool, z: bool, u: bool) -> u32
     ensures { result ≡ cond x 1 0 + cond y 1 0 + cond z 1 0 + cond u 1 0 }
 {
-    one(x) + one(y) + one(z) + one(u)
-}
-
-// Whether one of the four holds.
-fn any(x: bool, y: bool, z: bool, u: bool) -> bool
-    ensures { result ≡ x || y || z || u }
-{
-    x | y | z | u
+    u32::from(x) + u32::from(y) + u32::from(z) + u32::from(u)
 }
 
 // Which of the four is the first that holds, where one does.
@@ -146,14 +90,14 @@ fn first(x: bool, y: bool, z: bool) -> usize
 
 // The cell of the first that holds, in the bucket that starts at cell a. There is one branch for all
 // four.
-fn lowest(a: usize, x: bool, y: bool, z: bool, u: bool) -> Place
+fn lowest(a: usize, x: bool, y: bool, z: bool, u: bool) -> Option<usize>
     requires { a + 3 < 2 ^ 64 }
     ensures { place_is result ≡ cond x (some a) (cond y (some (a + 1)) (cond z (some (a + 2)) (cond u (some (a + 3)) none))) }
 {
-    if any(x, y, z, u) {
-        Place::At(a + first(x, y, z))
+    if x | y | z | u {
+        Some(a + first(x, y, z))
     } else {
-        Place::Nowhere
+        None
     }
 }
 
@@ -174,57 +118,45 @@ fn scan(table: &[u16], b: usize, p: u16) -> Scanned
     }
 }
 
-// Whether b is none of the first n buckets.
-fn unlisted(buckets: [u32; 4], n: usize, b: u32) -> bool
-    requires { n ≤ 4 }
-    ensures { result ≡ eqb (occ b (take n buckets)) 0 }
+// Whether b is one of the buckets. The slice's own `contains` answers the same, but looks at several at once, and so waits until the
+// list that was just made has reached memory: a lookup of four candidates takes a seventh longer by it.
+fn listed(buckets: &[u32], b: u32) -> bool
+    ensures { result ≡ list_any (λ x. eqb x b) buckets.now }
 {
-    let mut j = 0;
-    while j < n {
-        if buckets[j] == b {
-            return false;
+    for &x in buckets {
+        if x == b {
+            return true;
         }
-        j += 1;
     }
-    true
+    false
 }
 
 // How many copies of p the listed buckets hold, each bucket counted once however often it is listed.
-fn count(table: &[u16], list: CandidateList, p: u16) -> u32
-    requires { (list.count ≤ 4) × ((b : ℕ) → b among take list.count list.buckets → 4 * b + 4 ≤ length table.now) }
-    ensures { result ≡ total_once (length table.now / 4) (copies_at table.now p) (take list.count list.buckets) }
+fn count(table: &[u16], buckets: &[u32], p: u16) -> u32
+    requires { (length buckets.now ≤ 4) × ((b : ℕ) → b among buckets.now → 4 * b + 4 ≤ length table.now) }
+    ensures { result ≡ total_once (length table.now / 4) (copies_at table.now p) buckets.now }
 {
-    let count = list.count as usize;
-    let buckets = list.buckets;
     let mut n = 0;
-    let mut at = 0;
-    while at < count {
-        let b = buckets[at];
-        if unlisted(buckets, at, b) {
-            n += scan(table, b as usize, p).copies;
+    for (at, b) in buckets.iter().enumerate() {
+        if !listed(&buckets[..at], *b) {
+            n += scan(table, *b as usize, p).copies;
         }
-        at += 1;
     }
     n
 }
 
 // The lowest cell with p in the first of the listed buckets that has one.
-fn find(table: &[u16], list: CandidateList, p: u16) -> Place
-    requires { (list.count ≤ 4) × ((b : ℕ) → b among take list.count list.buckets → 4 * b + 4 ≤ length table.now) }
-    ensures { place_is result ≡ in_first (lowest_at table.now p) (take list.count list.buckets) }
+fn find(table: &[u16], buckets: &[u32], p: u16) -> Option<usize>
+    requires { (b : ℕ) → b among buckets.now → 4 * b + 4 ≤ length table.now }
+    ensures { place_is result ≡ in_first (lowest_at table.now p) buckets.now }
 {
-    let count = list.count as usize;
-    let buckets = list.buckets;
-    let mut k = 0;
-    while k < count {
-        let b = buckets[k] as usize;
-        let lowest = scan(table, b, p).lowest;
-        if let Place::At(i) = lowest {
-            return Place::At(i);
+    for b in buckets {
+        let lowest = scan(table, *b as usize, p).lowest;
+        if let Some(i) = lowest {
+            return Some(i);
         }
-        k += 1;
     }
-    Place::Nowhere
+    None
 }
 
 // One cell of a bucket, which is lent as its four cells. A single store, with no value in between: what an interrupted hold leaves rests on that,
@@ -248,72 +180,47 @@ fn write_cell(table: &mut [u16], at: usize, v: u16)
 }
 
 // Every cell empty.
-pub fn clear(s: Settings, table: &mut [u16]) -> ClearAnswer
+pub fn clear(s: Settings, table: &mut [u16]) -> Result<(), Refusal>
     ensures { outcome (clear_is result) table.new ≡ clear_table s table.old }
 {
-    let n = table_refusal(s, table);
-    if n != 0 {
-        return ClearAnswer::Refused(n);
-    }
-    let mut i = 0;
-    while i < table.len() {
-        table[i] = 0;
-        i += 1;
-    }
-    ClearAnswer::Cleared
+    table_check(s, table)?;
+    table.fill(0);
+    Ok(())
 }
 
-// How many cells are filled: the entries of a table, of any length.
+// How many cells are filled: the entries of a table, of any length. A chain of filter and count takes half as long again.
 pub fn filled(table: &[u16]) -> usize
     ensures { result ≡ filled_count table.now }
 {
     let mut n = 0;
-    let mut i = 0;
-    while i < table.len() {
-        if table[i] != 0 {
+    for v in table {
+        if *v != 0 {
             n += 1;
         }
-        i += 1;
     }
     n
 }
 
-// How many copies of the tag's fingerprint its candidate buckets hold.
-pub fn lookup(s: Settings, table: &[u16], tag: &[u8]) -> LookupAnswer
+// How many copies of the tag's fingerprint its candidate buckets hold: the tag is held where there is one.
+pub fn lookup(s: Settings, table: &[u16], tag: &[u8]) -> Result<u32, Refusal>
     ensures { outcome (lookup_is result) table.now ≡ lookup_of s table.now tag.now }
 {
-    let n = table_refusal(s, table);
-    if n != 0 {
-        return LookupAnswer::Refused(n);
-    }
-    match index::entry_of(s, tag) {
-        TagEntry::Refused(k) => LookupAnswer::Refused(k),
-        TagEntry::At(p, home) => {
-            let list = index::candidates(s, p, home);
-            LookupAnswer::Copies(count(table, list, p))
-        }
-    }
+    table_check(s, table)?;
+    let entry = index::entry_of(s, tag)?;
+    let list = index::candidates(s, entry.print, entry.home).unwrap();
+    Ok(count(table, list.as_slice(), entry.print))
 }
 
 // One copy of the tag's fingerprint is taken out: the lowest in the first candidate that has one.
-pub fn release(s: Settings, table: &mut [u16], tag: &[u8]) -> ReleaseAnswer
+pub fn release(s: Settings, table: &mut [u16], tag: &[u8]) -> Result<Removal, Refusal>
     ensures { outcome (release_is result) table.new ≡ release_of s table.old tag.now }
 {
-    let n = table_refusal(s, table);
-    if n != 0 {
-        return ReleaseAnswer::Refused(n);
-    }
-    match index::entry_of(s, tag) {
-        TagEntry::Refused(k) => ReleaseAnswer::Refused(k),
-        TagEntry::At(p, home) => {
-            let list = index::candidates(s, p, home);
-            match find(table, list, p) {
-                Place::At(i) => {
-                    write_cell(table, i, 0);
-                    ReleaseAnswer::Released
-                }
-                Place::Nowhere => ReleaseAnswer::Absent,
-            }
-        }
-    }
+    table_check(s, table)?;
+    let entry = index::entry_of(s, tag)?;
+    let list = index::candidates(s, entry.print, entry.home).unwrap();
+    let Some(i) = find(table, list.as_slice(), entry.print) else {
+        return Ok(Removal::Absent);
+    };
+    write_cell(table, i, 0);
+    Ok(Removal::Released)
 }

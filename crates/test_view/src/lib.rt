@@ -8,13 +8,6 @@ ghost use Rattle.test_view.specs.Lent.{settings_of};
 
 use index::Settings;
 
-// A cell, at 32 bits.
-fn wide(v: u16) -> u32
-    ensures { result ≡ v }
-{
-    v as u32
-}
-
 // Cell i of the view of a bucket, 65536 where the view has no such cell.
 #[unsafe(no_mangle)]
 pub extern "C" fn test_view_cell(
@@ -35,10 +28,8 @@ pub extern "C" fn test_view_cell(
         mask,
         salt: Settings::SALT,
     };
-    let part = bucket_view::view(s, table, bucket);
-    let k = i as usize;
-    if k >= part.len() {
-        return 65536;
+    match bucket_view::view(s, table, bucket).get(i as usize) {
+        Some(cell) => u32::from(*cell),
+        None => 65536,
     }
-    wide(part[k])
 }

@@ -1,13 +1,12 @@
 -- What only the private functions' contracts speak of.
 -- Assumes nothing.
-use Rattle.std.specs.Prelude.{Bool, true, false, ◌&&◌, List, [], ◌∷◌, ℕ, ◌+◌, ◌*◌}
+use Rattle.std.specs.Prelude.{Bool, ◌&&◌, List, [], ◌∷◌, ℕ, ◌+◌, ◌*◌, ◌%◌, eqb, length}
+use Rattle.std.specs.List.{list_all}
 use Rattle.digits.specs.Digits.{hex_value, hex_digit}
 
 -- whether digits stand for bytes
-unfoldable pub hex_passes : List ℕ → Bool
-hex_passes [] = true
-hex_passes (a ∷ []) = false
-hex_passes (a ∷ b ∷ l) = (hex_digit a && hex_digit b) && hex_passes l
+abbrev pub hex_passes : List ℕ → Bool
+hex_passes l = eqb (length l % 2) 0 && list_all hex_digit l
 
 -- the bytes that they stand for where they do
 unfoldable pub hex_pairs : List ℕ → List ℕ

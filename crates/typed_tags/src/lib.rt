@@ -1,37 +1,79 @@
 // A tag as it is typed.
 #![tactic(auto)]
 
-ghost use Rattle.std.specs.Prelude.{◌≡◌, true, ◌++◌, ◌≤◌, ◌/◌, length, drop};
+ghost use Rattle.std.specs.Prelude.{◌≡◌, true, List, ℕ, ◌++◌, ◌+◌, ◌*◌, ◌≤◌, ◌/◌, length, drop, IfOk};
+ghost use Rattle.std.specs.List.{list_all};
 ghost use Rattle.std.proofs.Math.Option.{some};
+ghost use Rattle.digits.specs.Digits.{hex_value as value_of, hex_digit};
+ghost use Rattle.refusals.specs.Checks.{first_met};
 ghost use Rattle.refusals.specs.Outcomes.{outcome};
+ghost use Rattle.refusals.specs.Refusals.{refused_by};
+ghost use Rattle.index.specs.Hash.{tag_checks};
 ghost use Rattle.typed_tags.specs.Tags.{hex_bytes, tag_bytes, tag_is, tag_out, tag_length, Starts};
 ghost use Rattle.typed_tags.specs.Internal.{hex_passes, hex_pairs};
 
-use digits::{hex_value, is_marked};
+use digits::{after_mark, hex_value};
+use refusals::Refusal;
+use std::error::Error;
+use std::fmt;
 
-// A tag that was typed: its length, the number by which it is refused, or digits that are none.
-#[derive(Clone, Copy)]
-pub enum TagAnswer {
-    Is(usize),
-    Refused(u32),
+// Why what was typed is no tag.
+#[derive(Clone, Copy, Debug, PartialEq, Eq)]
+pub enum TagError {
+    // by the check of tags
+    Refused(Refusal),
+    // what stands after 0x
     NotHex,
+}
+
+impl fmt::Display for TagError {
+    fn fmt<W: fmt::Write>(&self, f: &mut fmt::Formatter<W>) -> fmt::Result {
+        match self {
+            TagError::Refused(refusal) => write!(f, "{refusal}"),
+            TagError::NotHex => {
+                f.write_str("what stands after 0x is not pairs of hexadecimal digits")
+            }
+        }
+    }
+}
+
+impl Error for TagError {}
+
+impl From<Refusal> for TagError {
+    ghost use Rattle.typed_tags.specs.declared.TagError.{TagError};
+
+    ghost from_gives = { λ refusal error. error ≡ TagError.Refused refusal };
+
+    fn from(refusal: Refusal) -> TagError {
+        TagError::Refused(refusal)
+    }
+}
+
+fn is_digit(b: u8) -> bool
+    ensures { result ≡ hex_digit b }
+{
+    hex_value(b).is_some()
+}
+
+fn all_digits(text: &[u8]) -> bool
+    ensures { result ≡ list_all hex_digit text.now }
+{
+    text.iter().all(|b| is_digit(*b))
 }
 
 // Whether these are hexadecimal digits, two to a byte.
 fn is_hex(digits: &[u8]) -> bool
     ensures { result ≡ hex_passes digits.now }
 {
-    let mut i = 0;
-    while digits.len() - i >= 2 {
-        if hex_value(digits[i]) > 15 {
-            return false;
-        }
-        if hex_value(digits[i + 1]) > 15 {
-            return false;
-        }
-        i += 2;
-    }
-    i == digits.len()
+    digits.len() % 2 == 0 && all_digits(digits)
+}
+
+// The byte that two digits stand for.
+fn byte_of(high: u8, low: u8) -> u8
+    requires { (value_of high ≤ 15) × (value_of low ≤ 15) }
+    ensures { result ≡ 16 * value_of high + value_of low }
+{
+    16 * hex_value(high).unwrap() + hex_value(low).unwrap()
 }
 
 // The bytes of digits that pass, to the start of the output.
@@ -39,68 +81,55 @@ fn decode(digits: &[u8], out: &mut [u8])
     requires { (hex_passes digits.now ≡ true) × (length digits.now / 2 ≤ length out.old) }
     ensures { out.new ≡ hex_pairs digits.now ++ drop (length digits.now / 2) out.old }
 {
-    let n = digits.len() / 2;
-    let mut i = 0;
-    while i < n {
-        let high = hex_value(digits[2 * i]);
-        let low = hex_value(digits[2 * i + 1]);
-        out[i] = 16 * high + low;
-        i += 1;
+    for (i, pair) in digits.chunks_exact(2).enumerate() {
+        out[i] = byte_of(pair[0], pair[1]);
     }
 }
 
-// The text itself, to the start of the output.
-fn copy(text: &[u8], out: &mut [u8])
-    requires { length text.now ≤ length out.old }
-    ensures { out.new ≡ text.now ++ drop (length text.now) out.old }
+// The check of tags, which looks at the length alone.
+#[tactic(auto, using(index::proofs::Checks::tag_passes, index::proofs::Checks::tag_refused))]
+fn check(n: usize) -> Result<(), Refusal>
+    ensures passes { IfOk result (λ _. n ≤ 64) }
+    ensures first { (tag : List ℕ) → length tag ≡ n → first_met (tag_checks tag) ≡ refused_by result }
 {
-    let mut i = 0;
-    while i < text.len() {
-        out[i] = text[i];
-        i += 1;
+    if n == 0 || n > 64 {
+        return Err(Refusal::Tag);
     }
+    Ok(())
 }
 
 // A tag in hexadecimal digits. Nothing is written before the digits and their number have passed.
-fn digits_tag(digits: &[u8], out: &mut [u8; 64]) -> TagAnswer
+#[tactic(auto, using(crate::proofs::Digits::decoding))]
+fn digits_tag(digits: &[u8], out: &mut [u8; 64]) -> Result<usize, TagError>
     ensures { outcome (tag_is result) out.new ≡ tag_out (hex_bytes digits.now) out.old }
 {
     if !is_hex(digits) {
-        return TagAnswer::NotHex;
+        return Err(TagError::NotHex);
     }
     let count = digits.len() / 2;
-    if count == 0 {
-        return TagAnswer::Refused(7);
-    }
-    if count > 64 {
-        return TagAnswer::Refused(7);
-    }
+    check(count)?;
     decode(digits, out);
-    TagAnswer::Is(count)
+    Ok(count)
 }
 
 // A tag that is its own text.
-fn text_tag(text: &[u8], out: &mut [u8; 64]) -> TagAnswer
+fn text_tag(text: &[u8], out: &mut [u8; 64]) -> Result<usize, TagError>
     ensures { outcome (tag_is result) out.new ≡ tag_out (some text.now) out.old }
 {
     let n = text.len();
-    if n == 0 {
-        return TagAnswer::Refused(7);
-    }
-    if n > 64 {
-        return TagAnswer::Refused(7);
-    }
-    copy(text, out);
-    TagAnswer::Is(n)
+    check(n)?;
+    out[..n].copy_from_slice(text);
+    Ok(n)
 }
 
 // The tag that was typed, to the start of the output, whose later bytes stay as they are.
-pub fn tag(text: &[u8], out: &mut [u8; 64]) -> TagAnswer
+#[tactic(auto, unfolding(crate::specs::Tags::tag_bytes))]
+pub fn tag(text: &[u8], out: &mut [u8; 64]) -> Result<usize, TagError>
     ensures out_after { outcome (tag_is result) out.new ≡ tag_out (tag_bytes text.now) out.old }
     ensures starts { Starts (tag_length result) out.new }
 {
-    if is_marked(text) {
-        return digits_tag(&text[2..], out);
+    match after_mark(text) {
+        Some(digits) => digits_tag(digits, out),
+        None => text_tag(text, out),
     }
-    text_tag(text, out)
 }

@@ -1,18 +1,18 @@
 use Prim.Native.Nat.{ℕ, ◌+◌, ◌*◌}
-use mathlib.Core.Path.{◌≡◌, ap, ◌∙◌}
+use mathlib.Core.Path.{◌≡◌, ap}
 use native.Mathlib.Omega.{arith}
-use Rattle.bucket_view.proofs.Checked.{view-none, view-inside, view-some}
+use Rattle.bucket_view.proofs.Checked.{view-none, view-stays, view-inside, view-some}
 use Rattle.bucket_view.proofs.view.Goals as goal
 
-pub returns-then-n-ne0 : goal.returns-then-n-ne0
-returns-then-n-ne0 c =
-    record { values = view-none _ _ _ _ c.view_check-n.ensures c.if-n-ne0.true; place = λ e. absurd (c.if-n-ne0.true (c.view_check-n.ensures ∙ e)) }
+pub returns-in_default : goal.returns-in_default
+returns-in_default c =
+    record { values = view-none _ _ _ c.in_default.ensures; place = λ e. absurd (view-stays _ _ _ c.in_default.ensures e) }
 
 pub returns : goal.returns
 returns c =
     let a = c.args in
     record {
-      values = view-some a.s _ _ _ c.view_check-n.ensures c.if-n-ne0.false;
+      values = view-some a.s _ _ c.in-Ok.ensures;
       place = λ e. ap (λ (x : ℕ). (a.table.ref_ptr.0, x)) (behind a.bucket a.table.ref_ptr.1);
     }
   where
@@ -22,4 +22,4 @@ returns c =
 pub slice_bounds-result-end-2 : goal.slice_bounds-result-end-2
 slice_bounds-result-end-2 c =
     let a = c.args in
-    omega (arith, view-inside a.s a.table.now a.bucket _ c.view_check-n.ensures c.if-n-ne0.false)
+    omega (arith, view-inside a.s a.table.now a.bucket c.in-Ok.ensures)

@@ -1,48 +1,57 @@
-use Prim.Native.Nat.{ℕ, ◌+◌}
-use lib.ListN.{length}
-use mathlib.Core.Path.{◌≡◌, refl, sym, ap, ap₂, subst, ◌∙◌}
+use Prim.Native.Nat.{◌≤◌, ◌<◌, ◌^◌}
+use borrow.Author.Tests.{le-leb, lt-leb}
+use lib.Pow.{pow_pos}
+use mathlib.Core.Path.{sym, ap, ◌∙◌}
 use native.Mathlib.Omega.{arith}
+use Rattle.lemmas.proofs.Powers.{one_shifted}
 use Rattle.refusals.specs.Outcomes.{given}
+use Rattle.refusals.proofs.HandedOn.{told-on}
 use Rattle.index.proofs.Laws.{laws}
-use Rattle.calls.specs.Calls.{Sound}
 use Rattle.calls.proofs.Laws.{table-check-laws}
-use Rattle.file_form.specs.Writer.{file_of, length_of_file}
 use Rattle.file_form.proofs.Sizes.{file-length-laws}
-use Rattle.file_length.specs.declared.Size.{Size}
-use Rattle.file_length.specs.Internal.{Sized}
+use Rattle.file_length.proofs.Passes.{counted}
 use Rattle.file_length.proofs.file_length.Goals as goal
 
-pub returns-then-n-ne0 : goal.returns-then-n-ne0
-returns-then-n-ne0 c = let a = c.args in (file-length-laws a.s a.table.now).stopped c.table_refusal-n.ensures c.if-n-ne0.true
+pub returns-in_err-table_check : goal.returns-in_err-table_check
+returns-in_err-table_check c = let a = c.args in told-on _ c.in_err-table_check.field-0.0 c.from_residual.ensures.1 ((file-length-laws a.s a.table.now).stopped c.in_err-table_check.ensures)
 
-pub body_size-requires : goal.body_size-requires
-body_size-requires c =
-    let passes : Sound c.args.s c.args.table.now = (table-check-laws _ _).passed c.table_refusal-n.ensures c.if-n-ne0.false in
-    let S = passes in
-    let L = laws _ S.settings in
-    (L.width_high, S.size, L.few_buckets)
+pub cells_seen-top-requires : goal.cells_seen-top-requires
+cells_seen-top-requires c =
+    let S = (table-check-laws c.args.s c.args.table.now).sound (sym c.in_ok-table_check.ensures) in
+    omega (arith, S.size, (laws _ S.settings).few_buckets)
 
-pub returns-in_default : goal.returns-in_default
-returns-in_default c =
-    let passes : Sound c.args.s c.args.table.now = (table-check-laws _ _).passed c.table_refusal-n.ensures c.if-n-ne0.false in
+pub overflow_shl-s : goal.overflow_shl-s
+overflow_shl-s c =
+    let S = (table-check-laws c.args.s c.args.table.now).sound (sym c.in_ok-table_check.ensures) in
+    omega (arith, (laws _ S.settings).width_high)
+
+pub returns-then-from-s : goal.returns-then-from-s
+returns-then-from-s c =
     let a = c.args in
-    (file-length-laws a.s a.table.now).wide passes (subst (Sized a.s.width a.table.now) c.in_default.is c.body_size.ensures)
+    let S = (table-check-laws a.s a.table.now).sound (sym c.in_ok-table_check.ensures) in
+    let h : 2 ^ a.s.width ≤ c.cells_seen-top.result.0 = omega (arith, one_shifted a.s.width 32 (omega (arith, (laws _ S.settings).width_high)), c.from.ensures, c.if-from-s.true) in
+    (file-length-laws a.s a.table.now).wide S (c.cells_seen-top.ensures.top _ (pow_pos a.s.width) ∙ le-leb (2 ^ a.s.width) c.cells_seen-top.result.0 h)
+
+pub overflow_mul-result : goal.overflow_mul-result
+overflow_mul-result c =
+    let k = counted c.args.s c.args.table.now (sym c.in_ok-table_check.ensures) in
+    omega (arith, k.parts, k.most, c.cells_seen-top.ensures.filled)
 
 pub overflow_add-result : goal.overflow_add-result
 overflow_add-result c =
-    let sized : Sized c.args.s.width c.args.table.now (Size.Bytes c.in-Bytes.cells) = let a = c.args in subst (Sized a.s.width a.table.now) c.in-Bytes.is c.body_size.ensures in
-    let whole : c.header_size-header.result + c.in-Bytes.cells ≡ length (file_of c.args.s c.args.table.now) = let a = c.args in
-    ap₂ ◌+◌ c.header_size-header.ensures sized.1 ∙ sym (file-length-laws a.s a.table.now).parts in
-    let passes : Sound c.args.s c.args.table.now = (table-check-laws _ _).passed c.table_refusal-n.ensures c.if-n-ne0.false in
-    let given-length : (n : ℕ) → n ≡ length (file_of c.args.s c.args.table.now) → given n ≡ length_of_file c.args.s c.args.table.now = λ n e. let a = c.args in ap given e ∙ (file-length-laws a.s a.table.now).gives passes sized.0 in
-    let a = c.args in
-    omega (arith, whole, (file-length-laws a.s a.table.now).most _ (sym (given-length _ refl)))
+    let k = counted c.args.s c.args.table.now (sym c.in_ok-table_check.ensures) in
+    omega (arith, k.parts, k.most, c.cells_seen-top.ensures.filled, c.header_size-header.ensures)
+
+pub overflow_add-result-2 : goal.overflow_add-result-2
+overflow_add-result-2 c =
+    let k = counted c.args.s c.args.table.now (sym c.in_ok-table_check.ensures) in
+    omega (arith, k.parts, k.most, c.cells_seen-top.ensures.filled, c.header_size-header.ensures)
 
 pub returns : goal.returns
 returns c =
-    let sized : Sized c.args.s.width c.args.table.now (Size.Bytes c.in-Bytes.cells) = let a = c.args in subst (Sized a.s.width a.table.now) c.in-Bytes.is c.body_size.ensures in
-    let whole : c.header_size-header.result + c.in-Bytes.cells ≡ length (file_of c.args.s c.args.table.now) = let a = c.args in
-    ap₂ ◌+◌ c.header_size-header.ensures sized.1 ∙ sym (file-length-laws a.s a.table.now).parts in
-    let passes : Sound c.args.s c.args.table.now = (table-check-laws _ _).passed c.table_refusal-n.ensures c.if-n-ne0.false in
-    let given-length : (n : ℕ) → n ≡ length (file_of c.args.s c.args.table.now) → given n ≡ length_of_file c.args.s c.args.table.now = λ n e. let a = c.args in ap given e ∙ (file-length-laws a.s a.table.now).gives passes sized.0 in
-    given-length _ (omega (arith, whole))
+    let a = c.args in
+    let S = (table-check-laws a.s a.table.now).sound (sym c.in_ok-table_check.ensures) in
+    let k = counted a.s a.table.now (sym c.in_ok-table_check.ensures) in
+    let h : c.cells_seen-top.result.0 < 2 ^ a.s.width = omega (arith, one_shifted a.s.width 32 (omega (arith, (laws _ S.settings).width_high)), c.from.ensures, c.if-from-s.false) in
+    ap given (omega (arith, k.parts, c.cells_seen-top.ensures.filled, c.header_size-header.ensures))
+    ∙ (file-length-laws a.s a.table.now).gives S (c.cells_seen-top.ensures.top _ (pow_pos a.s.width) ∙ lt-leb (2 ^ a.s.width) c.cells_seen-top.result.0 h)

@@ -46,4 +46,4 @@ low_bits m =
 
 pub returns : goal.returns
 returns c =
-    let m = c.args.marks in eqb→eq (digit _ (m % 16)) (bucket_size (m % 16)) (passes _ 16 (m % 16) tt (omega arith)) ∙ low_bits m
+    let m = c.args.marks in rw c.from-digit.ensures (eqb→eq (digit _ (m % 16)) (bucket_size (m % 16)) (passes _ 16 (m % 16) tt (omega arith)) ∙ low_bits m)

@@ -1,34 +1,6 @@
-use mathlib.Core.Path.{◌≡◌, refl, ◌∙◌, ap}
-use Rattle.index.specs.declared.Settings.{Settings}
-use Rattle.packed.specs.Answers.{pack_is}
-use Rattle.packed.specs.declared.PackAnswer.{PackAnswer}
-use Rattle.packed_form.specs.Writer.{write_packed}
-use native.Mathlib.Omega.{arith}
 use lib.Dec.{lit≤}
-use Rattle.holdlist.proofs.Counts.{packed-counts, Counted, counted}
-use Rattle.holdlist.proofs.Crossing.{crosses}
-use Rattle.holdlist.specs.Numbers.{settings_at}
+use Rattle.holdlist.proofs.Counts.{room, packed-counts}
 use Rattle.holdlist.proofs.holdlist_packed_write.Goals as goal
 
-pub given_count-requires : goal.given_count-requires
-given_count-requires c =
-    let does : (r : PackAnswer) → c.write.result ≡ r → Counted (pack_is r) c.write.new.out (write_packed (settings_at c.args.settings.now) c.args.table.now c.args.out.now) = λ r q. let a = c.args in
-    counted pack_is 1 (lit≤ tt) c.write.auto.out c.well_formed.1.1.0.1 q c.write.ensures (packed-counts _ _ _)
-    (ap (λ (x : Settings). write_packed x a.table.now a.out.now) c.lent_settings-s.ensures) in
-    omega (arith, (does _ c.in-Packed.is).room refl)
-
-pub returns-in-Packed : goal.returns-in-Packed
-returns-in-Packed c =
-    let does : (r : PackAnswer) → c.write.result ≡ r → Counted (pack_is r) c.write.new.out (write_packed (settings_at c.args.settings.now) c.args.table.now c.args.out.now) = λ r q. let a = c.args in
-    counted pack_is 1 (lit≤ tt) c.write.auto.out c.well_formed.1.1.0.1 q c.write.ensures (packed-counts _ _ _)
-    (ap (λ (x : Settings). write_packed x a.table.now a.out.now) c.lent_settings-s.ensures) in
-    let t = (does _ c.in-Packed.is).tells in
-    record { value = crosses c.given_count.type_inv (c.given_count.ensures ∙ t.number); out_after = t.leaves }
-
-pub returns-in-Refused : goal.returns-in-Refused
-returns-in-Refused c =
-    let does : (r : PackAnswer) → c.write.result ≡ r → Counted (pack_is r) c.write.new.out (write_packed (settings_at c.args.settings.now) c.args.table.now c.args.out.now) = λ r q. let a = c.args in
-    counted pack_is 1 (lit≤ tt) c.write.auto.out c.well_formed.1.1.0.1 q c.write.ensures (packed-counts _ _ _)
-    (ap (λ (x : Settings). write_packed x a.table.now a.out.now) c.lent_settings-s.ensures) in
-    let t = (does _ c.in-Refused.is).tells in
-    record { value = crosses c.refused.type_inv (c.refused.ensures ∙ t.number); out_after = t.leaves }
+pub signed_count-requires : goal.signed_count-requires
+signed_count-requires c = room c.write.result 1 (lit≤ tt) c.write.auto.out c.well_formed.1.1.0.1 c.write.ensures (packed-counts _ _ _)

@@ -1,17 +1,13 @@
-use Rattle.std.proofs.Common.{ℕ, ◌+◌, ◌<◌, length, drop, sym, ap, ◌∙◌, arith}
+use Rattle.std.proofs.Common.{ℕ, ◌+◌, drop, sym, ap, ◌∙◌}
 use Rattle.index.proofs.Computes.{fnv-turn, fnv-end}
 use Rattle.index.specs.Hash.{fnv_from}
 use Rattle.index.proofs.fnv_from.Goals as goal
 
-pub loop-i-preserved : goal.loop-i-preserved
-loop-i-preserved c =
+pub loop-b-preserved : goal.loop-b-preserved
+loop-b-preserved c =
     let a = c.args.bytes.now in
-    let i = c.loop-i.i in
-    let h = c.loop-i.h in
-    let g : i < length a = c.loop-i-test.true in
-    (omega arith, ap (λ (x : ℕ). fnv_from x (drop (i + 1) a)) c.step-h.ensures ∙ fnv-turn a i h g ∙ c.loop-i.invariant.1)
+    let i = c.loop-b.b-index in
+    ap (λ (x : ℕ). fnv_from x (drop (i + 1) a)) c.step-h.ensures ∙ fnv-turn a i c.loop-b.h c.loop-b-test.true ∙ c.loop-b.invariant
 
 pub returns : goal.returns
-returns c =
-    let a = c.args.bytes.now in
-    sym (fnv-end a c.loop-i.i c.loop-i.h c.loop-i-test.false) ∙ c.loop-i.invariant.1
+returns c = sym (fnv-end c.args.bytes.now c.loop-b.b-index c.loop-b.h c.loop-b-test.false) ∙ c.loop-b.invariant

@@ -1,11 +1,14 @@
-use Rattle.index.proofs.Answers.{passed, offset-refused, offset-given}
+use Rattle.std.proofs.Common.{◌∙◌, ap}
+use Rattle.refusals.proofs.HandedOn.{told-on}
+use Rattle.index.specs.Candidates.{offset}
+use Rattle.index.specs.declared.Settings.{Settings}
+use Rattle.index.proofs.Answers.{as_passed, offset-refused, offset-given}
 use Rattle.index.proofs.offset.Goals as goal
 
-pub returns-then-n-ne0 : goal.returns-then-n-ne0
-returns-then-n-ne0 c = offset-refused (record { is = c.before.refusal-n.ensures }) _ c.if-n-ne0.true
-
-pub offset_of-requires : goal.offset_of-requires
-offset_of-requires c = passed (record { is = c.before.refusal-n.ensures }) c.if-n-ne0.false
+pub returns-in_err-passed : goal.returns-in_err-passed
+returns-in_err-passed c = told-on _ c.in_err-passed.field-0.0 c.from_residual.ensures.1 (offset-refused _ c.in_err-passed.ensures.refused _)
 
 pub returns : goal.returns
-returns c = offset-given (record { is = c.before.before.refusal-n.ensures }) _ c.if-n-ne0.false c.offset_of.ensures
+returns c =
+    let p = c.in_ok-passed in
+    offset-given _ (as_passed p.field-0 p.ensures.same) _ (c.offset.ensures ∙ ap (λ (s : Settings). offset s c.args.fingerprint) p.ensures.same)

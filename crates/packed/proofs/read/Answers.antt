@@ -1,65 +1,44 @@
-use Prim.Native.Nat.{ℕ}
 use lib.ListN.{length}
-use mathlib.Core.List.{List}
-use mathlib.Core.Path.{◌≡◌}
+use mathlib.Core.Path.{◌≡◌, ap, ◌∙◌}
 use native.Mathlib.Omega.{arith}
-use Rattle.calls.specs.Calls.{Sound}
-use Rattle.calls.proofs.Laws.{table-check-laws}
-use Rattle.index.specs.declared.Settings.{Settings}
+use Rattle.refusals.specs.Checks.{number_of}
+use Rattle.refusals.proofs.HandedOn.{handed_on}
 use Rattle.index.proofs.Laws.{laws}
 use Rattle.packed_form.specs.Writer.{length_of_packed}
 use Rattle.packed_form.proofs.Laws.{packed-laws}
-use Rattle.packed.proofs.Bytes.{width_of}
-use Rattle.packed.proofs.Reading.{call-stops, call_passes, call-stores}
-use Rattle.packed.specs.Internal.{Input}
+use Rattle.packed.proofs.Bytes.{width_of, sound, refusal-above}
 use Rattle.packed.proofs.read.Goals as goal
 
--- past the checks of settings, table and length
-input-of : {s : Settings} {t bytes : List ℕ} → Sound s t → length bytes ≡ length_of_packed s → Input s.width s.buckets bytes
-unfolding length_of_packed
-input-of S size =
-    let L = laws _ S.settings in
-    record { width = width_of _ S.settings; some = L.some_bucket; few = L.few_buckets; size = size }
-
-pub returns-then-n-ne0 : goal.returns-then-n-ne0
-returns-then-n-ne0 c = packed-laws.read_stopped _ _ _ c.table_refusal-n.ensures c.if-n-ne0.true
+pub returns-in_err-table_check : goal.returns-in_err-table_check
+returns-in_err-table_check c =
+    let h = c.in_err-table_check.ensures in
+    rw (handed_on _ c.in_err-table_check.field-0.0 c.from_residual.ensures.1) (packed-laws.read_stopped _ _ _ (ap number_of h) (refusal-above _ _ h))
 
 pub packed_length-needed-requires : goal.packed_length-needed-requires
-packed_length-needed-requires c =
-    -- past the check of settings and table
-    let passes : Sound c.args.s c.args.table.now = (table-check-laws _ _).passed c.table_refusal-n.ensures c.if-n-ne0.false in
-    passes.settings
+packed_length-needed-requires c = (sound _ _ c.in_ok-table_check.ensures).settings
 
 pub returns-then-bytes-needed : goal.returns-then-bytes-needed
 returns-then-bytes-needed c =
-    let passes : Sound c.args.s c.args.table.now = (table-check-laws _ _).passed c.table_refusal-n.ensures c.if-n-ne0.false in
-    packed-laws.read_short _ _ _ passes (omega (arith, c.packed_length-needed.ensures, c.if-bytes-needed.true))
+    packed-laws.read_short _ _ _ (sound _ _ c.in_ok-table_check.ensures) (omega (arith, c.packed_length-needed.ensures, c.if-bytes-needed.true))
 
 pub returns-then-bytes-needed-2 : goal.returns-then-bytes-needed-2
 returns-then-bytes-needed-2 c =
-    let passes : Sound c.args.s c.args.table.now = (table-check-laws _ _).passed c.table_refusal-n.ensures c.if-n-ne0.false in
-    packed-laws.read_long _ _ _ passes (omega (arith, c.packed_length-needed.ensures, c.if-bytes-needed-2.true))
+    packed-laws.read_long _ _ _ (sound _ _ c.in_ok-table_check.ensures) (omega (arith, c.packed_length-needed.ensures, c.if-bytes-needed-2.true))
 
-pub check_buckets-answer-requires : goal.check_buckets-answer-requires
-check_buckets-answer-requires c =
-    let passes : Sound c.args.s c.args.table.now = (table-check-laws _ _).passed c.table_refusal-n.ensures c.if-n-ne0.false in
-    let input = input-of passes (omega (arith, c.packed_length-needed.ensures, c.if-bytes-needed.false, c.if-bytes-needed-2.false)) in
-    (c.table-quads.ensures, input)
+pub invariant_of-width : goal.invariant_of-width
+invariant_of-width c = let W = width_of _ (sound _ _ c.in_ok-table_check.ensures).settings in record { low = W.low; high = W.high }
 
-pub returns-in_default : goal.returns-in_default
-returns-in_default c =
-    let passes : Sound c.args.s c.args.table.now = (table-check-laws _ _).passed c.table_refusal-n.ensures c.if-n-ne0.false in
-    let input = input-of passes (omega (arith, c.packed_length-needed.ensures, c.if-bytes-needed.false, c.if-bytes-needed-2.false)) in
-    call-stops passes input _ c.in_default.is c.check_buckets-answer.ensures
+pub invariant_of-unpack_by : goal.invariant_of-unpack_by
+unfolding length_of_packed
+invariant_of-unpack_by c =
+    let L = laws _ (sound _ _ c.in_ok-table_check.ensures).settings in
+    let size : length c.args.bytes.now ≡ length_of_packed c.args.s = omega (arith, c.packed_length-needed.ensures, c.if-bytes-needed.false, c.if-bytes-needed-2.false) in
+    record { some = L.some_bucket; few = L.few_buckets; quads_are = c.table-quads.ensures; size = size; in_range = λ i. (c.type_inv.bytes i).fits }
 
-pub store_buckets-requires : goal.store_buckets-requires
-store_buckets-requires c =
-    let passes : Sound c.args.s c.args.table.now = (table-check-laws _ _).passed c.table_refusal-n.ensures c.if-n-ne0.false in
-    let input = input-of passes (omega (arith, c.packed_length-needed.ensures, c.if-bytes-needed.false, c.if-bytes-needed-2.false)) in
-    record { quads_are = c.table-quads.ensures; input = input; size = passes.size; passes = call_passes passes input _ c.in-Unpacked.is c.check_buckets-answer.ensures }
+pub unpack_by-requires : goal.unpack_by-requires
+unpack_by-requires c = (sound _ _ c.in_ok-table_check.ensures).size
 
 pub returns : goal.returns
 returns c =
-    let passes : Sound c.args.s c.args.table.now = (table-check-laws _ _).passed c.table_refusal-n.ensures c.if-n-ne0.false in
-    let input = input-of passes (omega (arith, c.packed_length-needed.ensures, c.if-bytes-needed.false, c.if-bytes-needed-2.false)) in
-    call-stores passes input _ c.in-Unpacked.is c.check_buckets-answer.ensures c.store_buckets.ensures
+    let size : length c.args.bytes.now ≡ length_of_packed c.args.s = omega (arith, c.packed_length-needed.ensures, c.if-bytes-needed.false, c.if-bytes-needed-2.false) in
+    c.unpack_by.ensures ∙ packed-laws.read_goes_on _ _ _ (sound _ _ c.in_ok-table_check.ensures) size

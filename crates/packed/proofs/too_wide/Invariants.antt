@@ -1,14 +1,10 @@
-use Prim.Native.Nat.{◌≤◌, ◌<◌, ◌-◌, ◌^◌}
+use Prim.Native.Nat.{◌^◌}
 use lib.Dec.{leb}
-use lib.ListN.{length, drop}
+use lib.ListN.{drop}
 use mathlib.Core.Bool.{◌||◌}
 use mathlib.Core.Path.{◌≡◌}
 use Rattle.calls.specs.WrittenForms.{any_from}
 use Rattle.packed.proofs.too_wide.Given as goal
 
-abbrev pub invariant-loop-i : goal.invariant-loop-i
-invariant-loop-i l =
-    (l.i ≤ length l.table) × (l.top < 65536) × ((leb (2 ^ l.w) l.top || any_from (2 ^ l.w) (drop l.i l.table)) ≡ any_from (2 ^ l.w) l.table)
-
-abbrev pub decreases-loop-i : goal.decreases-loop-i
-decreases-loop-i l = length l.table - l.i
+abbrev pub invariant-loop-v : goal.invariant-loop-v
+invariant-loop-v l = (leb (2 ^ l.width.bits) l.top || any_from (2 ^ l.width.bits) (drop l.v-index l.table)) ≡ any_from (2 ^ l.width.bits) l.table

@@ -1,28 +1,35 @@
-use mathlib.Core.Path.{sym, ap, ◌∙◌}
-use Rattle.index.specs.Answers.{tag_entry_is}
+use Rattle.refusals.proofs.HandedOn.{handed_on}
 use Rattle.calls.specs.Calls.{Sound, lookup, lookup_in}
-use Rattle.table.proofs.Guards.{Known, placing, few, inside, tag-stopped, tag_refused, lookup-told}
-use Rattle.calls.proofs.Laws.{table-check-laws}
+use Rattle.table.proofs.Guards.{Placing, sound, home-inside, listed, placing, few, inside, tag-stopped, tag_refused, lookup-told}
 use Rattle.table.proofs.lookup.Goals as goal
 
-pub returns-then-n-ne0 : goal.returns-then-n-ne0
+pub returns-in_err-table_check : goal.returns-in_err-table_check
 unfolding lookup
-returns-then-n-ne0 c = tag-stopped _ _ _ (lookup_in _ _) c.table_refusal-n.ensures c.if-n-ne0.true
+returns-in_err-table_check c =
+    rw (handed_on _ c.in_err-table_check.field-0.0 c.from_residual.ensures.1) (tag-stopped _ _ _ (lookup_in _ _) c.in_err-table_check.ensures)
+
+pub returns-in_err-entry : goal.returns-in_err-entry
+unfolding lookup
+returns-in_err-entry c =
+    let S : Sound c.args.s c.args.table.now = sound _ _ c.in_ok-table_check.ensures in
+    rw (handed_on _ c.in_err-entry.field-0.0 c.from_residual-in_err-entry.ensures.1) (tag_refused _ _ _ (lookup_in _ _) S c.in_err-entry.ensures)
+
+-- the entry's bucket is in the table
+pub unwrap-list-requires : goal.unwrap-list-requires
+unwrap-list-requires c =
+    let S : Sound c.args.s c.args.table.now = sound _ _ c.in_ok-table_check.ensures in
+    listed S (home-inside S c.args.tag.now c.in_ok-entry.ensures) _ _ c.candidates.ensures
 
 pub count-requires : goal.count-requires
 count-requires c =
-    let passes : Sound c.args.s c.args.table.now = (table-check-laws _ _).passed c.table_refusal-n.ensures c.if-n-ne0.false in
-    let known : Known c.args.s c.args.table.now c.args.tag.now c.in-At.p c.in-At.home c.candidates-list.result = record { pass = passes; entry-is = sym (ap tag_entry_is c.in-At.is) ∙ c.entry_of.ensures; lists = c.candidates-list.ensures } in
-    let K = placing known in (few K, inside K)
+    let S : Sound c.args.s c.args.table.now = sound _ _ c.in_ok-table_check.ensures in
+    let K : Placing c.args.s c.args.table.now c.in_ok-entry.entry.print c.in_ok-entry.entry.home c.as_slice.result.now =
+    placing S (home-inside S c.args.tag.now c.in_ok-entry.ensures) _ c.candidates.ensures c.unwrap-list.ensures c.as_slice.ensures in
+    (few K, inside K)
 
-pub returns-in-Refused : goal.returns-in-Refused
-unfolding lookup
-returns-in-Refused c =
-    let passes : Sound c.args.s c.args.table.now = (table-check-laws _ _).passed c.table_refusal-n.ensures c.if-n-ne0.false in
-    tag_refused _ _ _ (lookup_in _ _) passes (sym (ap tag_entry_is c.in-Refused.is) ∙ c.entry_of.ensures)
-
-pub returns-in-At : goal.returns-in-At
-returns-in-At c =
-    let passes : Sound c.args.s c.args.table.now = (table-check-laws _ _).passed c.table_refusal-n.ensures c.if-n-ne0.false in
-    let known : Known c.args.s c.args.table.now c.args.tag.now c.in-At.p c.in-At.home c.candidates-list.result = record { pass = passes; entry-is = sym (ap tag_entry_is c.in-At.is) ∙ c.entry_of.ensures; lists = c.candidates-list.ensures } in
-    lookup-told known c.count.ensures
+pub returns : goal.returns
+returns c =
+    let S : Sound c.args.s c.args.table.now = sound _ _ c.in_ok-table_check.ensures in
+    let K : Placing c.args.s c.args.table.now c.in_ok-entry.entry.print c.in_ok-entry.entry.home c.as_slice.result.now =
+    placing S (home-inside S c.args.tag.now c.in_ok-entry.ensures) _ c.candidates.ensures c.unwrap-list.ensures c.as_slice.ensures in
+    lookup-told S _ c.in_ok-entry.ensures K c.count.ensures

@@ -1,8 +1,11 @@
-use Rattle.index.proofs.Answers.{checked-passed, checked_refused}
+use Rattle.std.proofs.Common.{◌∙◌, ap}
+use Rattle.refusals.specs.Outcomes.{given}
+use Rattle.refusals.proofs.HandedOn.{told-on}
+use Rattle.index.proofs.Answers.{as_passed, checked-passed, checked_refused}
 use Rattle.index.proofs.Settings.new.Goals as goal
 
-pub returns-then-n-eq0-clause-result_value : goal.returns-then-n-eq0-clause-result_value
-returns-then-n-eq0-clause-result_value c = checked-passed (record { is = c.refusal-n.ensures }) c.if-n-eq0.true
+pub returns-in_err-passed-clause-result_value : goal.returns-in_err-passed-clause-result_value
+returns-in_err-passed-clause-result_value c = told-on _ c.in_err-passed.field-0.0 c.from_residual.ensures.1 (checked_refused _ c.in_err-passed.ensures.refused)
 
-pub returns-else-n-eq0-clause-result_value : goal.returns-else-n-eq0-clause-result_value
-returns-else-n-eq0-clause-result_value c = checked_refused (record { is = c.refusal-n.ensures }) c.if-n-eq0.false
+pub returns-clause-result_value : goal.returns-clause-result_value
+returns-clause-result_value c = let p = c.in_ok-passed in ap given p.ensures.same ∙ checked-passed _ (as_passed p.field-0 p.ensures.same)
