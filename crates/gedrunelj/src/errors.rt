@@ -1,5 +1,5 @@
 // Why the system refused a file, and why a file was not written.
-use filestat::error_number;
+use filestat::{EINVAL, EIO, ENAMETOOLONG, error_number};
 use std::{fmt, io};
 
 // An error of the system: one that the tool has words for, or its number.
@@ -21,22 +21,22 @@ pub(crate) enum Cause {
     Other(i32),
 }
 
-// By the numbers that Linux has for them.
+// By the numbers that Linux has for them. Those that `filestat` answers by itself have names there.
 impl From<io::Error> for Cause {
     fn from(e: io::Error) -> Cause {
         match error_number(&e) {
             1 => Cause::NotPermitted,
             2 => Cause::NoFile,
-            5 => Cause::Disk,
+            EIO => Cause::Disk,
             13 => Cause::Denied,
             17 => Cause::InTheWay,
             20 => Cause::NoFolder,
             21 => Cause::Folder,
-            22 => Cause::NoName,
+            EINVAL => Cause::NoName,
             27 => Cause::TooLarge,
             28 => Cause::NoSpace,
             30 => Cause::ReadOnly,
-            36 => Cause::LongName,
+            ENAMETOOLONG => Cause::LongName,
             40 => Cause::Circle,
             other => Cause::Other(other),
         }

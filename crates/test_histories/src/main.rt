@@ -24,9 +24,6 @@ use std::io;
 use std::io::Write;
 use table::Removal;
 
-// The 64-bit FNV-1a hash of no bytes.
-const FNV_START: u64 = 0xcbf29ce484222325;
-
 // ── tags that are made from a seed ──
 
 // How many are still to come, and the state from which the next is made.
@@ -108,7 +105,7 @@ impl Held {
             refused: 0,
             moves: 0,
             longest: 0,
-            hash: FNV_START,
+            hash: index::fnv1a(b""),
         }
     }
 
@@ -132,7 +129,7 @@ impl Held {
 // ── requests ──
 
 fn hash_of_cells(cells: &[u16]) -> u64 {
-    let mut hash = FNV_START;
+    let mut hash = index::fnv1a(b"");
     for cell in cells {
         hash = index::fnv_from(hash, &cell.to_le_bytes());
     }
