@@ -10,7 +10,12 @@ ghost use Rattle.digits.specs.Numbers.{value_of, decimal_of, number_of};
 pub fn hex_value(b: u8) -> Option<u8>
     ensures { result ≡ digit_of b }
 {
-    Some(char::from(b).to_digit(16)? as u8)
+    match b {
+        b'0'..=b'9' => Some(b - b'0'),
+        b'a'..=b'f' => Some(b - b'a' + 10),
+        b'A'..=b'F' => Some(b - b'A' + 10),
+        _ => None,
+    }
 }
 
 // What follows 0x, where text starts with it.

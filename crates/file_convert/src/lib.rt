@@ -2,7 +2,7 @@
 // as the reader does: once at all of it, to check, and once at what is copied.
 #![tactic(auto)]
 
-ghost use Rattle.std.specs.Prelude.{◌≡◌};
+ghost use Rattle.std.specs.Prelude.{◌≡◌, length};
 ghost use Rattle.refusals.specs.Outcomes.{outcome};
 ghost use Rattle.refusals.specs.Refusals.{told};
 ghost use Rattle.index.specs.Settings.{unmasked as unmasked_settings};
@@ -19,6 +19,16 @@ fn unmasked(s: Settings) -> Settings
         rule: 0,
         mask: 0,
         ..s
+    }
+}
+
+// Bytes to a part of their length, one by one: the library's own copy would want `memcpy` of whoever links the library for C.
+fn copy(part: &mut [u8], bytes: &[u8])
+    requires { length part.old ≡ length bytes.now }
+    ensures { part.new ≡ bytes.now }
+{
+    for i in 0..bytes.len() {
+        part[i] = bytes[i];
     }
 }
 
@@ -39,6 +49,6 @@ pub fn convert(bytes: &[u8], out: &mut [u8]) -> Result<usize, Refusal>
         return Err(Refusal::Output);
     }
     let to = file_header::put_header(t, out);
-    out[to..needed].copy_from_slice(rest);
+    copy(&mut out[to..needed], rest);
     Ok(needed)
 }

@@ -84,14 +84,24 @@ fn check_map(map: u64) -> Result<(), Refusal>
 
 // ── written ──
 
+// The low bytes of a number, to a part of their length. They are shifted out one by one: a copy would want `memcpy` of whoever links
+// the library for C.
+fn emit(part: &mut [u8], v: u64)
+    requires { length part.old ≤ 8 }
+    ensures { part.new ≡ bytes_of (length part.old) v }
+{
+    for i in 0..part.len() {
+        part[i] = ((v >> (8 * i)) % 256) as u8;
+    }
+}
+
 // n bytes of a number, low byte first; the place after them.
 fn put_number(out: &mut [u8], from: usize, n: usize, v: u64) -> usize
     requires { (n ≤ 8) × (from + n ≤ length out.old) }
     ensures { Put out.old out.new from (bytes_of n v) result }
 {
     let end = from + n;
-    let digits = v.to_le_bytes();
-    out[from..end].copy_from_slice(&digits[..n]);
+    emit(&mut out[from..end], v);
     end
 }
 

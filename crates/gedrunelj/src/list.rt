@@ -278,10 +278,10 @@ impl<'a> Session<'a> {
     // A hold file of a mask that splits no offset, written as one of the plain rule. The list has no
     // part in it.
     pub(crate) fn convert(&mut self, from: &[u8], to: &[u8]) {
-        let mut out = programs::space::<u8, { super::FILE }>(0);
         let Some(n) = self.fetch(from) else {
             return;
         };
+        let mut out = programs::space::<u8, { super::FILE }>(0);
         match file_convert::convert(&self.space[..n], &mut out) {
             Ok(count) => self.log.store("converted", to, &out, count),
             Err(why) => self.log.refused(why),

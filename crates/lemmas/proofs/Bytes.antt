@@ -41,6 +41,10 @@ bytes-split (suc j) n x =
     let e : suc j + n ≡ suc (j + n) = omega arith in
     rw (e, past-byte x j) (ap (λ (l : List ℕ). (x % 256) ∷ l) (bytes-split j n (x / 256)))
 
+-- a byte more
+pub bytes-next : (i x : ℕ) → bytes_of (i + 1) x ≡ bytes_of i x ++ (x / 2 ^ (8 * i) % 256 ∷ [])
+bytes-next i x = bytes-split i 1 x
+
 -- the first bytes do not see what stands above them
 pub bytes_low : (j x y : ℕ) → bytes_of j (x + 2 ^ (8 * j) * y) ≡ bytes_of j x
 bytes_low zero x y = refl

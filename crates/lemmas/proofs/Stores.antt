@@ -2,10 +2,11 @@
 -- Assumes nothing.
 use mathlib.Core.Path.{◌≡◌, refl, sym, ap, ap₂, ◌∙◌}
 use mathlib.Core.List.{List, [], ◌∷◌, ◌++◌, append_assoc}
-use Prim.Native.Nat.{ℕ, zero, suc, ◌+◌, ◌≤◌}
+use Prim.Native.Nat.{ℕ, zero, suc, ◌+◌, ◌≤◌, ◌<◌}
+use native.Mathlib.Numerals.{add-one}
 use native.Mathlib.Omega.{arith}
 use lib.ListN.{length, get_or, drop, set, length-append}
-use lib.Seq.{sets, sets-eq, length-sets, drop-cons}
+use lib.Seq.{sets, sets-eq, length-sets, drop-cons, set_at}
 use Rattle.lemmas.specs.Stores.{Put, PutBefore}
 
 pub drop-four : (l : List ℕ) (i : ℕ) → i + 4 ≤ length l → drop i l ≡ get_or l i 0 ∷ get_or l (i + 1) 0 ∷ get_or l (i + 2) 0 ∷ get_or l (i + 3) 0 ∷ drop (i + 4) l
@@ -45,6 +46,14 @@ put-from-start {o} {e} {f} {q} {a} b k g h =
 
 pub put-length : {o e : List ℕ} {at q : ℕ} {a : List ℕ} → Put o e at a q → length e ≡ length o
 put-length {o} {e} {at} {q} {a} k = ap length k.output ∙ length-sets o at a
+
+-- one number more, behind those that were put to the front
+pub put-next : (v p : List ℕ) (i x : ℕ) → length v ≡ i → i < length p → set (v ++ drop i p) i x ≡ (v ++ (x ∷ [])) ++ drop (i + 1) p
+put-next v p i x e h =
+    rw (drop-cons p i 0 h)
+    (set_at v (get_or p i 0) (drop (suc i) p) x i e
+    ∙ sym (append_assoc v (x ∷ []) (drop (suc i) p))
+    ∙ ap (λ (k : ℕ). (v ++ (x ∷ [])) ++ drop k p) (sym (add-one i)))
 
 -- ── stores that leave something behind them to be stored over ──
 pub put-before : {n : ℕ} {o e : List ℕ} {at r : ℕ} {a : List ℕ} → Put o e at a r → PutBefore n o e at a r
@@ -89,6 +98,16 @@ module _ {o e : List ℕ} {from at : ℕ} {all rest : List ℕ} (k : Left o e fr
 
   pub left-turn : {f a : List ℕ} {r : ℕ} (more : List ℕ) → Put e f at a r → rest ≡ a ++ more → Left o f from r all more
   left-turn more p s = left-before {n = 0} more (put-before p) s (omega arith)
+
+  -- the last part
+  pub left-fits : from + length all ≤ length o → at + length rest ≤ length e
+  left-fits h = omega (arith, k.place, k.long)
+
+  pub left-last : {f : List ℕ} {r : ℕ} → Put e f at rest r → Put o f from all r
+  left-last p = record {
+    output = p.output ∙ k.output;
+    place = p.place ∙ k.place;
+  }
 
   pub left-none : rest ≡ [] → Put o e from all at
   left-none s = record { output = sym (ap (sets e at) s) ∙ k.output; place = omega (arith, k.place, ap length s) }

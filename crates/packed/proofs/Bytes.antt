@@ -4,17 +4,16 @@ use mathlib.Core.Path.{◌≡◌, refl, sym, ap, ap₂, ◌∙◌, subst}
 use mathlib.Core.Logic.{◌≢◌}
 use mathlib.Core.Option.{Option, none, some}
 use mathlib.Core.List.{List, [], ◌∷◌, ◌++◌, append_assoc, append-nil}
-use Prim.Native.Nat.{ℕ, zero, suc, ◌+◌, ◌*◌, ◌-◌, ◌/◌, ◌%◌, ◌^◌, ◌≤◌, ◌<◌, min}
-use native.Mathlib.Decide.{dec_le}
+use Prim.Native.Nat.{ℕ, suc, ◌+◌, ◌*◌, ◌-◌, ◌/◌, ◌%◌, ◌^◌, ◌≤◌, ◌<◌}
 use native.Mathlib.Nat.{add-zero, mul-add, mul_assoc, mul_left_comm, mul-le-mul, mul-le-mul_left}
 use native.Mathlib.Omega.{arith}
 use borrow.Rule.Slice.PartMut.{mid_of, put_mid}
-use lib.ListN.{length, get_or, take, drop, length-append, length-take, length-drop, drop_of_length-le, take-append-drop}
+use lib.ListN.{length, get_or, take, drop, length-append, length-drop, drop_of_length-le, take-append-drop}
 use lib.Seq.{drop-drop, get_or-drop, take_all, take-nil, take_at, length-take-le}
 use Rattle.std.proofs.Common.{w64}
 use Rattle.std.specs.Int.{to_le_bytes, from_le_bytes}
 use Rattle.lemmas.specs.Bytes.{AllBytes, bytes_of, number_from}
-use Rattle.lemmas.proofs.Bytes.{bytes-length, bytes-split, number-take, drop-bytes}
+use Rattle.lemmas.proofs.Bytes.{number-take, drop-bytes}
 use Rattle.refusals.specs.Checks.{first_met}
 use Rattle.refusals.specs.Outcomes.{given, unless}
 use Rattle.refusals.specs.Positive.{Positive}
@@ -33,7 +32,7 @@ pub ahead-few : (m r : ℕ) → r ≡ (m - 4) / 2 → 2 * r ≤ m - 4
 ahead-few m r e = omega arith
 
 -- ── a word's bytes ──
-word-bytes : (x : ℕ) → to_le_bytes w64 x ≡ bytes_of 8 x
+pub word-bytes : (x : ℕ) → to_le_bytes w64 x ≡ bytes_of 8 x
 word-bytes x =
     let e2 : x / 65536 ≡ x / 256 / 256 = omega arith in
     let e3 : x / 16777216 ≡ x / 256 / 256 / 256 = omega arith in
@@ -42,13 +41,6 @@ word-bytes x =
     let e6 : x / 281474976710656 ≡ x / 256 / 256 / 256 / 256 / 256 / 256 = omega arith in
     let e7 : x / 72057594037927936 ≡ x / 256 / 256 / 256 / 256 / 256 / 256 / 256 = omega arith in
     rw (e2, e3, e4, e5, e6, e7) refl
-
--- the lowest of them
-pub low-bytes : (x n : ℕ) → n ≤ 8 → {l : List ℕ} → l ≡ to_le_bytes w64 x → take n l ≡ bytes_of n x
-low-bytes x n h e =
-    let k : 8 ≡ n + (8 - n) = omega arith in
-    let more : List ℕ = bytes_of (8 - n) (x / 2 ^ (8 * n)) in
-    ap (take n) (e ∙ word-bytes x ∙ ap (λ (i : ℕ). bytes_of i x) k ∙ bytes-split n (8 - n) x) ∙ take_at (bytes_of n x) more n (bytes-length n x)
 
 byte-ahead : (k i : ℕ) (l : List ℕ) → number_from (take (suc k) (drop i l)) ≡ get_or l i 0 + 256 * number_from (take k (drop (i + 1) l))
 byte-ahead k i l = one (drop i l) ∙ ap₂ (λ (b : ℕ) (m : List ℕ). b + 256 * number_from (take k m)) (get_or-drop i l 0 0 ∙ ap (λ (j : ℕ). get_or l j 0) (add-zero i)) (drop-drop 1 i l)
@@ -62,6 +54,16 @@ first-eight : (l : List ℕ) → from_le_bytes w64 l ≡ number_from (take 8 l)
 first-eight l =
     rw (byte-ahead 7 0 l, byte-ahead 6 1 l, byte-ahead 5 2 l, byte-ahead 4 3 l, byte-ahead 3 4 l, byte-ahead 2 5 l, byte-ahead 1 6 l, byte-ahead 0 7 l)
     (omega arith)
+
+-- the bytes from a place on, each 0 past the end
+pub eight-from : (l : List ℕ) (at : ℕ) → AllBytes l → {a b c d e f g h : ℕ}
+    → a ≡ get_or l at 0 → b ≡ get_or l (at + 1) 0 → c ≡ get_or l (at + 2) 0 → d ≡ get_or l (at + 3) 0
+    → e ≡ get_or l (at + 4) 0 → f ≡ get_or l (at + 5) 0 → g ≡ get_or l (at + 6) 0 → h ≡ get_or l (at + 7) 0
+    → from_le_bytes w64 (a ∷ b ∷ c ∷ d ∷ e ∷ f ∷ g ∷ h ∷ []) ≡ number_from (drop at l) % 2 ^ 64
+eight-from l at all ea eb ec ed ee ef eg eh =
+    let s : (i : ℕ) → get_or l (at + i) 0 ≡ get_or (drop at l) i 0 = λ i. sym (get_or-drop at l i 0) in
+    let z : get_or l at 0 ≡ get_or (drop at l) 0 0 = ap (λ (k : ℕ). get_or l k 0) (sym (add-zero at)) ∙ s 0 in
+    rw (ea, eb, ec, ed, ee, ef, eg, eh, z, s 1, s 2, s 3, s 4, s 5, s 6, s 7) (first-eight (drop at l) ∙ number-take 8 (drop at l) (drop-bytes at l all))
 
 -- ── buckets by half bytes ──
 pub half-bits : (w m : ℕ) → bucket_bits w * m ≡ 4 * ((w - 1) * m)
@@ -130,38 +132,6 @@ module _ (l : List ℕ) (at : ℕ) where
   tail-front n part within h =
       put_front l (take n part) (drop n part) (put_mid at (length l - at) l part) at n (length-take-le n part h) within
       (tail-back part ∙ ap (λ (k : List ℕ). take at l ++ k) (sym (take-append-drop n part)))
-
--- ── the bytes that there are from a place on, at most eight, and zeros after them ──
-abbrev pub zeros : List ℕ
-zeros = 0 ∷ 0 ∷ 0 ∷ 0 ∷ 0 ∷ 0 ∷ 0 ∷ 0 ∷ []
-
-number-zeros : (l : List ℕ) (k : ℕ) → number_from (l ++ drop k zeros) ≡ number_from l
-number-zeros (b ∷ l) k = ap (λ (n : ℕ). b + 256 * n) (number-zeros l k)
-number-zeros [] k = none_left k zeros refl
-  where
-    none_left : (k : ℕ) (z : List ℕ) → number_from z ≡ 0 → number_from (drop k z) ≡ 0
-    none_left zero z e = e
-    none_left (suc k) [] e = refl
-    none_left (suc k) (b ∷ z) e = none_left k z (omega arith)
-
-pub word-padded : (l : List ℕ) (at : ℕ) → AllBytes l → {n : ℕ} {v : List ℕ} → n ≡ min (length (take (length l - at) (drop at l))) 8 → v ≡ take n (take (length l - at) (drop at l))
-    → from_le_bytes w64 (v ++ drop n zeros) ≡ number_from (drop at l) % 2 ^ 64
-word-padded l at all {n} {v} least e =
-    let r : List ℕ = drop at l in
-    let k : n ≡ min (length r) 8 = least ∙ ap (λ (x : List ℕ). min (length x) 8) (tail-whole l at) in
-    let f : v ≡ take n r = e ∙ ap (take n) (tail-whole l at) in
-    let size : length (v ++ drop n zeros) ≤ 8 = omega (arith, length-append v (drop n zeros), length-drop n zeros, ap length f, length-take n r) in
-    first-eight (v ++ drop n zeros)
-    ∙ ap number_from (take_all 8 (v ++ drop n zeros) size)
-    ∙ number-zeros v n
-    ∙ ap number_from (f ∙ least-taken r k)
-    ∙ number-take 8 r (drop-bytes at l all)
-  where
-    least-taken : (r : List ℕ) {n : ℕ} → n ≡ min (length r) 8 → take n r ≡ take 8 r
-    least-taken r {n} e = elim (dec_le 8 (length r)) [
-      | yes h ↦ let k : n ≡ 8 = omega arith in ap (λ (i : ℕ). take i r) k
-      | no h ↦ take_all n r (omega arith) ∙ sym (take_all 8 r (omega arith))
-    ]
 
 -- ── a call that the check of settings and table refuses, or does not ──
 module _ (s : Settings) (c : List ℕ) where

@@ -148,12 +148,23 @@ impl Packer<'_> {
     }
 }
 
-// The low bytes of a word, to the start of a part of the output.
+// The low bytes of a word, to the start of a part of the output. They are shifted out one by one: a copy would want `memcpy` of whoever
+// links the library for C.
 fn emit(part: &mut [u8], word: u64, count: usize)
     requires { (count ≤ 8) × (count ≤ length part.old) }
     ensures { part.new ≡ bytes_of count word ++ drop count part.old }
 {
-    part[..count].copy_from_slice(&word.to_le_bytes()[..count]);
+    for i in 0..count {
+        part[i] = ((word >> (8 * i)) % 256) as u8;
+    }
+}
+
+// All the bytes of a word, in one store.
+fn emit_word(part: &mut [u8], word: u64)
+    requires { 8 ≤ length part.old }
+    ensures { part.new ≡ bytes_of 8 word ++ drop 8 part.old }
+{
+    part[..8].copy_from_slice(&word.to_le_bytes());
 }
 
 // Two buckets to the start of a part of the output: they take w − 1 whole bytes. As words, where these fit the part:
@@ -169,8 +180,8 @@ fn write_pair(part: &mut [u8], width: Width, one: u64, two: u64, words: bool)
     let last = (w - 1 - half) as usize;
     let rest = (one >> (half * 8)) + (two << skip);
     if words {
-        emit(part, one, 8);
-        emit(&mut part[first..], rest, 8);
+        emit_word(part, one);
+        emit_word(&mut part[first..], rest);
         return;
     }
     emit(part, one, first);
@@ -255,16 +266,28 @@ fn word_ahead(bytes: &[u8], at: usize) -> u64
     u64::from_le_bytes(*bytes[at..at + 8].first_chunk().unwrap())
 }
 
-// The same where there may be fewer than eight: zeros follow.
+// A byte, or 0 past the end.
+fn byte_or(bytes: &[u8], at: usize) -> u8
+    ensures { result ≡ get_or bytes.now at 0 }
+{
+    bytes.get(at).copied().unwrap_or(0)
+}
+
+// The number of the eight bytes from a place on where there may be fewer: zeros follow.
 fn word_at(bytes: &[u8], at: usize) -> u64
     requires { at ≤ length bytes.now }
     ensures { result ≡ number_from (drop at bytes.now) % 2 ^ 64 }
 {
-    let rest = &bytes[at..];
-    let n = rest.len().min(8);
-    let mut word = [0; 8];
-    word[..n].copy_from_slice(&rest[..n]);
-    u64::from_le_bytes(word)
+    u64::from_le_bytes([
+        byte_or(bytes, at),
+        byte_or(bytes, at + 1),
+        byte_or(bytes, at + 2),
+        byte_or(bytes, at + 3),
+        byte_or(bytes, at + 4),
+        byte_or(bytes, at + 5),
+        byte_or(bytes, at + 6),
+        byte_or(bytes, at + 7),
+    ])
 }
 
 // A quadruple's nibbles, each as the highest of a word's 16 bits, the first lowest. The product has the

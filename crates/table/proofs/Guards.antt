@@ -7,12 +7,11 @@ use mathlib.Core.List.{List, ◌++◌}
 use Prim.Native.Nat.{ℕ, ◌+◌, ◌*◌, ◌-◌, ◌/◌, ◌≤◌, ◌<◌}
 use native.Mathlib.Omega.{arith}
 use borrow.Author.Rules.{rules}
-use lib.ListN.{length, take, drop, set, replicate, length-drop, take-append-drop}
+use lib.ListN.{length, take, drop, set, replicate, length-drop}
 use Rattle.std.proofs.lemmas.List.{take_all}
 use Rattle.std.specs.Prelude.{Result, Ok, Err, IsOk}
-use Rattle.lemmas.specs.Count.{occ, ◌among◌}
+use Rattle.lemmas.specs.Count.{◌among◌}
 use Rattle.lemmas.specs.Sums.{total_once}
-use Rattle.lemmas.proofs.Count.{occ-append}
 use Rattle.refusals.specs.Checks.{first_met}
 use Rattle.refusals.specs.Outcomes.{refused, given, unless, done, outcome, keeping}
 use Rattle.refusals.specs.declared.Refusal.{Refusal}
@@ -31,6 +30,7 @@ use Rattle.calls.specs.Calls.{Act, cleared, table_checks, Sound, fresh, clear_ta
 use Rattle.calls.specs.Calls.{tagged_checks, found_in, copies, copies_in, lookup, released, emptied, release, lookup_in, release_in}
 use Rattle.calls.specs.Laws.{Finds}
 use Rattle.calls.proofs.Laws.{scan-laws, table-check-laws, call-laws}
+use Rattle.table.proofs.Scans.{part_among}
 
 module _ (s : Settings) (c : List ℕ) where
   -- the check of settings and table is passed
@@ -87,12 +87,9 @@ module _ {s : Settings} {c : List ℕ} {p b : ℕ} {l : List ℕ} (K : Placing s
   pub rest-is : from 1 ≡ others s p b
   rest-is = from-is 1 ∙ ap (drop 1) (K.list-is ∙ (laws s K.pass.settings).first p b)
 
-  within : (j x : ℕ) → x among from j → x among l
-  within j x k = omega (arith, k, ap (occ x) (from-is j), occ-append x (take j l) (drop j l), ap (occ x) (take-append-drop j l))
-
   pub from-below : (j x : ℕ) → x among from j → x < s.buckets
   from-below j x k =
-      (laws s K.pass.settings).below p b x K.home-in (rw K.list-is at (within j x k))
+      (laws s K.pass.settings).below p b x K.home-in (rw K.list-is at (part_among l _ j x k))
 
   pub inside : (x : ℕ) → x among l → 4 * x + 4 ≤ length c
   inside x k = omega (arith, K.pass.size, (laws s K.pass.settings).below p b x K.home-in (rw K.list-is at k))

@@ -39,6 +39,18 @@ next-among xs j x e = omega (arith, ap (occ x) (sym (take-append-drop j xs)) ∙
 pub at_among : (xs : List ℕ) (k : ℕ) → k < length xs → get_or xs k 0 among xs
 at_among xs k h = next-among xs k _ (next_of xs k h)
 
+-- what stands in a part of a list, as the code lends it, stands in the list
+pub part_among : (xs : List ℕ) (n j x : ℕ) → x among take n (drop j xs) → x among xs
+part_among xs n j x k =
+    omega (
+      arith,
+      k,
+      occ-append x (take n (drop j xs)) (drop n (drop j xs)),
+      ap (occ x) (take-append-drop n (drop j xs)),
+      occ-append x (take j xs) (drop j xs),
+      ap (occ x) (take-append-drop j xs),
+    )
+
 -- ── the buckets in turn: bucket k, and none before it gave anything ──
 pub record Turn (f : ℕ → Option ℕ) (bs : List ℕ) (k : ℕ) : Type 0 where
   pub same : in_first f (drop k bs) ≡ in_first f bs

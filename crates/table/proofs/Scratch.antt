@@ -107,6 +107,28 @@ module _ {m : ℕ} {w : List ℕ} {t : ℕ} (sp : Sparse m w t) where
   pub sparse-room : (roots b : ℕ) → b < m → marked b (queue_in m w roots t) ≡ false → t < m
   sparse-room roots b l e = omega (arith, (queue-laws m).room (queue_in m w roots t) (node b []) (distinct-upto roots t (omega arith)) l e, queue-length m w roots t)
 
+-- no entries at all are a sparse set, whatever the words
+pub sparse-none : {m : ℕ} {w : List ℕ} → 2 * m ≤ length w → m ≤ 65536 → Sparse m w 0
+sparse-none h l = record {
+  big = h;
+  small = l;
+  count = omega arith;
+  low = λ i b. absurd (omega arith);
+  back = λ i b. absurd (omega arith);
+  older = λ i b. absurd (omega arith);
+}
+
+-- fewer entries are a sparse set too
+pub sparse-less : {m : ℕ} {w : List ℕ} {t : ℕ} (k : ℕ) → k ≤ t → Sparse m w t → Sparse m w k
+sparse-less k h sp = record {
+  big = sp.big;
+  small = sp.small;
+  count = omega (arith, sp.count);
+  low = λ i l. sp.low i (omega arith);
+  back = λ i l. sp.back i (omega arith);
+  older = λ i l. sp.older i (omega arith);
+}
+
 -- ── a bucket is queued: the words of the old entries stand, and the new one stands at the tail ──
 abbrev pub stored : ℕ → List ℕ → ℕ → ℕ → ℕ → ℕ → List ℕ
 stored m w t b h k = set (set w t (b + 65536 * h)) (m + b) (4 * t + k)

@@ -19,16 +19,17 @@ use Rattle.calls.specs.Search.{Node, node, marked, Ending, found, exhausted, arr
 use Rattle.table.specs.Scratch.{bucket_in, parent_in, origin_in, node_in, queue_in, path_in, Sparse, Stands}
 use Rattle.table.specs.Probes.{Ended, RanOut}
 use Rattle.table.specs.Internal.{place_is, Visits}
-use Rattle.table.proofs.Scratch.{queue-length, queue-at, roots-any, path-root, path-later}
+use Rattle.table.proofs.Scratch.{queue-length, queue-at, sparse-none, roots-any, path-root, path-later}
 
 -- ── the roots ──
 -- the buckets before number k are queued
 pub record AtSeed (m : ℕ) (bs : List ℕ) (w : List ℕ) (tail k : ℕ) : Type 0 where
   pub same : roots_from (drop k bs) (queue_in m w m tail) ≡ roots_from bs []
 
-pub seed-starts : {m : ℕ} {bs w : List ℕ} → AtSeed m bs w 0 0
+-- none is queued yet, and all words will do
+pub seed-starts : {m : ℕ} {bs w : List ℕ} → AtSeed m bs w 0 0 × (2 * m ≤ length w → m ≤ 65536 → Sparse m w 0)
 unfolding queue_in
-seed-starts = record { same = refl }
+seed-starts = (record { same = refl }, sparse-none)
 
 module _ {m : ℕ} {bs w : List ℕ} {tail k : ℕ} (a : AtSeed m bs w tail k) where
   pub seed-ends : tail ≤ m → length bs ≤ k → queue_in m w tail tail ≡ roots_from bs []

@@ -73,7 +73,7 @@ fn byte_of(high: u8, low: u8) -> u8
     requires { (value_of high ≤ 15) × (value_of low ≤ 15) }
     ensures { result ≡ 16 * value_of high + value_of low }
 {
-    16 * hex_value(high).unwrap() + hex_value(low).unwrap()
+    16 * hex_value(high).unwrap_or(0) + hex_value(low).unwrap_or(0)
 }
 
 // The bytes of digits that pass, to the start of the output.

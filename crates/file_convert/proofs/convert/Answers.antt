@@ -44,7 +44,7 @@ returns c =
     let idle = idle-file s l c.in_ok-s.at all c.in_ok-s.ensures (refuses-some _ c.check.ensures (sym c.is_ok-passes.ensures.value ∙ c.if-passes.false)) in
     let put : Put o c.put_header-to.new.out 0 (header (unmasked s)) c.put_header-to.result =
     header-put (subst (λ (t : Settings). HeaderPut t o c.put_header-to.new.out c.put_header-to.result) c.unmasked-t.ensures c.put_header-to.ensures) (omega (arith, h, c.if-out-needed.false)) in
-    code-written idle o h c.if-out-needed.false put c.copy_from_slice.ensures.after
+    code-written idle o h c.if-out-needed.false put c.copy.ensures
 
 pub returns-then-passes : goal.returns-then-passes
 returns-then-passes c =

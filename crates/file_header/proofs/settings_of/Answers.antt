@@ -12,9 +12,7 @@ returns-in_err-s c = told-on _ c.in_err-s.field-0.0 c.from_residual.ensures.1 (a
 
 pub returns : goal.returns
 unfolding header_answer
-returns c =
-    let s = c.in_ok-s.s in
-    ap (λ (o : Option ℕ). unless o (given s)) c.in_ok-check.ensures ∙ ap named c.in_ok-s.ensures.is
+returns c = ap (λ (o : Option ℕ). unless o (given c.in_ok-s.s)) c.in_ok-check.ensures ∙ ap named c.in_ok-s.ensures.is
 
 pub returns-in_err-check : goal.returns-in_err-check
 unfolding header_answer

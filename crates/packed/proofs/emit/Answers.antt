@@ -1,11 +1,17 @@
-use mathlib.Core.List.{List, ◌++◌}
-use mathlib.Core.Path.{ap, ◌∙◌}
-use Prim.Native.Nat.{ℕ}
 use lib.ListN.{drop}
-use Rattle.packed.proofs.Bytes.{low-bytes}
+use mathlib.Core.List.{List, ◌++◌}
+use mathlib.Core.Path.{sym, ap, ◌∙◌}
+use Prim.Native.Nat.{◌+◌, ◌*◌, ◌/◌, ◌%◌, ◌^◌}
+use lib.ListN.{set}
+use native.Mathlib.Omega.{arith}
+use Rattle.lemmas.proofs.Bytes.{bytes-length, bytes-next}
+use Rattle.lemmas.proofs.Stores.{put-next}
 use Rattle.packed.proofs.emit.Goals as goal
 
-pub returns : goal.returns
-returns c =
+pub loop-i-preserved : goal.loop-i-preserved
+loop-i-preserved c =
     let a = c.args in
-    ap (λ (l : List ℕ). l ++ drop a.count a.part.now) (c.copy_from_slice.ensures.after ∙ low-bytes a.word a.count c.requires.0 c.to_le_bytes.ensures)
+    let i = c.loop-i.i in
+    ap (λ (l : List _). set l i (a.word / 2 ^ (8 * i) % 256)) c.loop-i.invariant
+    ∙ put-next _ a.part.now i _ (bytes-length i a.word) (omega (arith, c.requires))
+    ∙ ap (λ (l : List _). l ++ drop (i + 1) a.part.now) (sym (bytes-next i a.word))

@@ -7,7 +7,7 @@ overflow_add-rest c = record { fits = rest-fits (allowed c.args.width) c.require
 
 pub returns-then-words : goal.returns-then-words
 returns-then-words c =
-    pair-by-words (allowed c.args.width) c.requires _ c.args.part.now c.emit.auto.part c.if-words.true c.emit.ensures _ c.emit-then-words.ensures
+    pair-by-words (allowed c.args.width) c.requires _ c.args.part.now c.emit_word.auto.part c.if-words.true c.emit_word.ensures _ c.emit_word-then-words.ensures
 
 pub returns : goal.returns
-returns c = pair-by-bytes (allowed c.args.width) c.requires _ c.args.part.now c.emit-2.auto.part c.emit-2.ensures _ c.emit-3.ensures
+returns c = pair-by-bytes (allowed c.args.width) c.requires _ c.args.part.now c.emit.auto.part c.emit.ensures _ c.emit-2.ensures

@@ -5,7 +5,7 @@ use Rattle.table.proofs.Walks.{seed-starts, seed-ends}
 use Rattle.table.proofs.search.seed.Goals as goal
 
 pub loop-b-init : goal.loop-b-init
-loop-b-init c = record { same_reference = refl; same_buckets = refl; seeded = rw c.requires.empty seed-starts }
+loop-b-init c = record { same_reference = refl; same_buckets = refl; seeded = rw c.requires.empty seed-starts.0 }
 
 pub is_marked-requires : goal.is_marked-requires
 is_marked-requires c = omega (arith, c.loop-b.invariant.same_buckets, c.requires.by_index _ (at_among _ _ c.loop-b-test.true))
