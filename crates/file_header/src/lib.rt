@@ -90,8 +90,10 @@ fn emit(part: &mut [u8], v: u64)
     requires { length part.old ≤ 8 }
     ensures { part.new ≡ bytes_of (length part.old) v }
 {
+    let mut rest = v;
     for i in 0..part.len() {
-        part[i] = ((v >> (8 * i)) % 256) as u8;
+        part[i] = (rest % 256) as u8;
+        rest /= 256;
     }
 }
 

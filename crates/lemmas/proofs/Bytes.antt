@@ -41,7 +41,12 @@ bytes-split (suc j) n x =
     let e : suc j + n ≡ suc (j + n) = omega arith in
     rw (e, past-byte x j) (ap (λ (l : List ℕ). (x % 256) ∷ l) (bytes-split j n (x / 256)))
 
--- a byte more
+-- a byte more, and what is left past it
+pub byte-past : (i x : ℕ) → x / 2 ^ (8 * i) / 256 ≡ x / 2 ^ (8 * (i + 1))
+byte-past i x =
+    let e : 8 * (i + 1) ≡ 8 * i + 8 = omega arith in
+    shr-shr x (8 * i) 8 ∙ ap (λ (k : ℕ). x / 2 ^ k) (sym e)
+
 pub bytes-next : (i x : ℕ) → bytes_of (i + 1) x ≡ bytes_of i x ++ (x / 2 ^ (8 * i) % 256 ∷ [])
 bytes-next i x = bytes-split i 1 x
 

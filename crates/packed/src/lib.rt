@@ -154,8 +154,10 @@ fn emit(part: &mut [u8], word: u64, count: usize)
     requires { (count ≤ 8) × (count ≤ length part.old) }
     ensures { part.new ≡ bytes_of count word ++ drop count part.old }
 {
+    let mut rest = word;
     for i in 0..count {
-        part[i] = ((word >> (8 * i)) % 256) as u8;
+        part[i] = (rest % 256) as u8;
+        rest /= 256;
     }
 }
 

@@ -179,12 +179,14 @@ fn write_cell(table: &mut [u16], at: usize, v: u16)
     put(&mut table[a..e], at - a, v);
 }
 
-// Every cell empty.
+// Every cell empty. The slice's own `fill` stores the last cell apart from the others.
 pub fn clear(s: Settings, table: &mut [u16]) -> Result<(), Refusal>
     ensures { outcome (clear_is result) table.new ≡ clear_table s table.old }
 {
     table_check(s, table)?;
-    table.fill(0);
+    for cell in table.iter_mut() {
+        *cell = 0;
+    }
     Ok(())
 }
 

@@ -1,17 +1,18 @@
-use lib.ListN.{drop}
+use lib.ListN.{drop, set}
 use mathlib.Core.List.{List, ◌++◌}
-use mathlib.Core.Path.{sym, ap, ◌∙◌}
-use Prim.Native.Nat.{◌+◌, ◌*◌, ◌/◌, ◌%◌, ◌^◌}
-use lib.ListN.{set}
+use mathlib.Core.Path.{sym, ap, ap₂, ◌∙◌}
+use Prim.Native.Nat.{ℕ, ◌+◌, ◌/◌, ◌%◌}
 use native.Mathlib.Omega.{arith}
-use Rattle.lemmas.proofs.Bytes.{bytes-length, bytes-next}
+use Rattle.lemmas.proofs.Bytes.{bytes-length, bytes-next, byte-past}
 use Rattle.lemmas.proofs.Stores.{put-next}
 use Rattle.packed.proofs.emit.Goals as goal
 
 pub loop-i-preserved : goal.loop-i-preserved
 loop-i-preserved c =
     let a = c.args in
-    let i = c.loop-i.i in
-    ap (λ (l : List _). set l i (a.word / 2 ^ (8 * i) % 256)) c.loop-i.invariant
-    ∙ put-next _ a.part.now i _ (bytes-length i a.word) (omega (arith, c.requires))
-    ∙ ap (λ (l : List _). l ++ drop (i + 1) a.part.now) (sym (bytes-next i a.word))
+    let i = c.loop-i.i in (
+      ap (λ (x : ℕ). x / 256) c.loop-i.invariant.0 ∙ byte-past i a.word,
+      ap₂ (λ (l : List ℕ) (x : ℕ). set l i (x % 256)) c.loop-i.invariant.1 c.loop-i.invariant.0
+          ∙ put-next _ a.part.now i _ (bytes-length i a.word) (omega (arith, c.requires))
+          ∙ ap (λ (l : List ℕ). l ++ drop (i + 1) a.part.now) (sym (bytes-next i a.word)),
+    )

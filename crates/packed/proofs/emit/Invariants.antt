@@ -1,8 +1,9 @@
 use lib.ListN.{drop}
 use mathlib.Core.List.{◌++◌}
 use mathlib.Core.Path.{◌≡◌}
+use Prim.Native.Nat.{◌*◌, ◌/◌, ◌^◌}
 use Rattle.lemmas.specs.Bytes.{bytes_of}
 use Rattle.packed.proofs.emit.Given as goal
 
 abbrev pub invariant-loop-i : goal.invariant-loop-i
-invariant-loop-i l = l.part ≡ bytes_of l.i l.word ++ drop l.i l.initial.part
+invariant-loop-i l = (l.rest ≡ l.word / 2 ^ (8 * l.i)) × (l.part ≡ bytes_of l.i l.word ++ drop l.i l.initial.part)
